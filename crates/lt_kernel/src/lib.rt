@@ -1,0 +1,11 @@
+//! The kernel: what a theory has declared and stated, and derivations over it.
+#![tactic(auto)]
+
+mod fault;
+mod proof;
+mod rules;
+mod terms;
+mod types;
+
+pub use fault::Fault;
+pub use proof::{Proof, Sequent};
