@@ -4,15 +4,13 @@ ghost use Rattle.std.specs.Io.{ReadsAtMost};
 ghost use Rattle.lt_io.specs.Causes.{HasCause, CountsFault, Rose};
 ghost use Rattle.lt_io.specs.Files.{IsPiece, HoldsFile};
 
+use crate::library::PIECE;
 use crate::{Failed, Library, Sink};
 use std::alloc::Global;
 use std::fs::File;
 use std::io;
 use std::io::{Read, Seek, SeekFrom, Write};
 use std::rt::Files;
-
-/// How many bytes at most one read takes from the system.
-const PIECE: usize = 65_536;
 
 /// An open file, with the place where its next byte stands.
 #[derive(Drop)]
@@ -39,7 +37,7 @@ impl<F: Read + Seek> OpenedFile<F> {
 ///
 /// A read opens its file at most once. The file stays open for the next piece: a read that goes on
 /// where the one before it ended, in the same file, neither opens nor seeks. A read at place 0 opens
-/// anew. So a folder is a fault, and a pipe or a device gives its bytes in turn.
+/// anew. A folder is a fault, and a pipe or a device gives its bytes in turn.
 #[derive(Drop)]
 pub struct FileLibrary<'a, R: Files> {
     files: &'a R,
@@ -112,7 +110,8 @@ impl<'a, R: Files> Library for FileLibrary<'a, R> {
 
     fn read(&mut self, name: &str, at: u64, into: &mut [u8]) -> Result<usize, Failed>
         ensures bound { IfOk result (λ n. n ≤ length into.new) }
-        ensures bytes { IfOk result (λ n. HoldsFile None name.now (λ file. IsPiece file at n into.new)) }
+        ensures bytes { IfOk result (λ n. HoldsFile None name.now
+            (λ file. IsPiece file at n into.new)) }
         ensures untouched { OnErr result (into.new ≡ into.old) }
         ensures counted { CountsFault self.old.faults self.new.faults result }
         ensures cause { HasCause self.old.faults self.new.faults result }
