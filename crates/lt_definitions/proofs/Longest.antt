@@ -164,7 +164,7 @@ spelt_reaches Backslash word rest h = sign_reaches word (codes "\\") rest h (one
 
 -- ---- what is found is a front of the text, and spelt as a token of its kind
 
-abbrev IsSound : List ℕ → Option Scanned → Type 0
+abbrev pub IsSound : List ℕ → Option Scanned → Type 0
 IsSound text None = Unit {0}
 IsSound text (Some t) = (text ≡ t.spelling ++ t.rest) × (is_spelt t.kind t.spelling ≡ true)
 
@@ -214,7 +214,7 @@ sign_sound : (o : Option TokenKind) (c : ℕ) (cs : List ℕ) → SignIs c o →
 sign_sound None c cs h = tt
 sign_sound (Some kind) c cs h = (refl, h)
 
-token_sound : (text : List ℕ) → IsSound text (token_at text)
+pub token_sound : (text : List ℕ) → IsSound text (token_at text)
 token_sound [] = tt
 token_sound (c ∷ cs) =
     choose (starts_name c) (c ∷ cs) (Some (run_at Name (c ∷ []) is_xid_continue cs)) _

@@ -1,6 +1,7 @@
 //! What a text is cut into, and the laws of that cutting. Each function does nothing: its contract is the law.
-ghost use Rattle.std.specs.Prelude.{◌≡◌, ◌++◌, ℕ, List, Some, None, MatchOption, true};
+ghost use Rattle.std.specs.Prelude.{◌≡◌, ◌<◌, ◌++◌, ℕ, List, Some, None, MatchOption, true, length};
 ghost use Rattle.lt_definitions.specs.Tokens.{Scanned, token_at};
+ghost use Rattle.lt_definitions.specs.Texts.{Left, lexed, after, IsToken};
 ghost use Rattle.lt_definitions.specs.Spelling.{is_spelt, stops, NoToken, IsLongest};
 
 /// What a token is.
@@ -69,5 +70,12 @@ pub fn tokens_are_longest()
 #[tactic(auto, using(crate::proofs::Longest::spelt_found))]
 pub fn spelt_tokens_are_found()
     ensures { (kind : TokenKind) (word rest : List ℕ) → is_spelt kind word ≡ true → stops kind rest ≡ true → token_at (word ++ rest) ≡ Some (record { kind = kind; spelling = word; rest = rest }) }
+{
+}
+
+/// A text is shorter behind each of its tokens.
+#[tactic(auto, using(crate::proofs::Shorter::token_shortens))]
+pub fn tokens_take_characters()
+    ensures { (s : Left) → IsToken (lexed s) → length (after s).ahead < length s.ahead }
 {
 }

@@ -1,5 +1,5 @@
 -- What stands next in a text that is read up to a place.
-use Rattle.std.proofs.Common.{◌≡◌, ℕ, ◌-◌, ◌≤◌, ◌∙◌, ap, sym, subst, refl, Bool, true, false, List, [], ◌∷◌, length, take, drop, Option, Some, None, arith, length-take, length-drop}
+use Rattle.std.proofs.Common.{◌≡◌, ℕ, ◌-◌, ◌<◌, ◌≤◌, ◌∙◌, ap, sym, subst, refl, Bool, true, false, List, [], ◌∷◌, length, take, drop, Option, Some, None, arith, length-take, length-drop}
 use Rattle.std.specs.Prelude.{◌==◌, if◌then◌else◌, chars, IsUtf8, IsCharBoundary, encode_utf8_all}
 use Rattle.std.specs.Str.Lossy.{utf8_valid_len}
 use Rattle.std.proofs.lemmas.Str.{utf8_valid_len_le, encodes-chars, IsUtf8-drop, IsUtf8-from_is_utf8}
@@ -7,7 +7,9 @@ use Rattle.lt_definitions.specs.declared.lexical.TokenKind.{TokenKind}
 use Rattle.lt_definitions.specs.declared.lexical.Lexed.TheVariants.{Token, End, BadByte, BadChar}
 use Rattle.lt_definitions.specs.Characters.{behind_gap}
 use Rattle.lt_definitions.specs.Tokens.{Scanned, token_from, token_at}
-use Rattle.lt_definitions.specs.Texts.{Left, end_of, place_of, past_gap, ending, lexed, lexed_at, lexed_by, after, after_by}
+use Rattle.lt_definitions.specs.Texts.{Left, end_of, place_of, past_gap, ending, lexed, lexed_at, lexed_by, after, after_by, IsToken}
+use Rattle.lt_definitions.specs.declared.lexical.Lexed.{Lexed}
+use Rattle.lt_definitions.proofs.Shorter.{token_shortens}
 use Rattle.lt_lex.specs.Places.{ahead_at, IsOpened, Ends, IsFound}
 
 -- what is left of a text from a place on
@@ -85,3 +87,6 @@ after_some source text at from c behind h kind to f =
 
 pub place_found : (text : List ℕ) (at : ℕ) (o : Option Scanned) (kind : TokenKind) (to : ℕ) → IsFound text at o (Some (kind, to)) → IsCharBoundary text to
 place_found text at o kind to f = ((some_from text at o (kind, to) f).2).place
+
+pub shorter_told : (s s' : Left) (r : Lexed) → r ≡ lexed s → s' ≡ after s → IsToken r → length s'.ahead < length s.ahead
+shorter_told s s' r e q t = subst (λ (x : Left). length x.ahead < length s.ahead) (sym q) (token_shortens s (subst IsToken e t))

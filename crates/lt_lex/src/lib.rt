@@ -3,8 +3,8 @@
 
 mod scan;
 
-ghost use Rattle.std.specs.Prelude.{◌≡◌};
-ghost use Rattle.lt_definitions.specs.Texts.{Left, left_of, lexed, after, ending};
+ghost use Rattle.std.specs.Prelude.{◌≡◌, ◌<◌, length};
+ghost use Rattle.lt_definitions.specs.Texts.{Left, left_of, lexed, after, ending, IsToken};
 
 use std::marker::Model;
 
@@ -43,6 +43,7 @@ impl<'a> Lexer<'a> {
     pub fn next_token(&mut self) -> Lexed
         ensures token { result ≡ lexed self.old }
         ensures left { self.new ≡ after self.old }
+        ensures shorter { IsToken result → length self.new.ahead < length self.old.ahead }
     {
         let from = scan::past_gap(self.text, self.at);
         let Some((first, behind)) = scan::char_at(self.text, from) else {

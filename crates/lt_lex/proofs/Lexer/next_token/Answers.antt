@@ -1,6 +1,6 @@
 use Rattle.std.proofs.Common.{◌≡◌, ◌∙◌, ap, sym}
 use Rattle.lt_definitions.specs.Texts.{lexed, after, ending}
-use Rattle.lt_lex.proofs.Nexts.{Begins, lexed_end, lexed_none, lexed_some, after_some, place_found}
+use Rattle.lt_lex.proofs.Nexts.{Begins, lexed_end, lexed_none, lexed_some, after_some, place_found, shorter_told}
 use Rattle.lt_lex.proofs.Lexer.next_token.Goals as goal
 
 
@@ -26,3 +26,6 @@ returns-clause-left c =
 pub returns-in_default-clause-token : goal.returns-in_default-clause-token
 returns-in_default-clause-token c =
     c.ending.ensures ∙ ap ending (sym c.self.view_is) ∙ lexed_end c.self.inside.source.now c.self.inside.text.now c.self.inside.at c.past_gap-from.result c.past_gap-from.ensures.chars c.in_default.ensures.chars ∙ ap lexed c.self.view_is
+
+pub returns-clause-shorter : goal.returns-clause-shorter
+returns-clause-shorter c t = shorter_told _ _ _ (returns-clause-token c) (returns-clause-left c) t
