@@ -70,7 +70,7 @@ pub lexed_some : (source text : List ℕ) (at from c behind : ℕ) → Begins so
 lexed_some source text at from c behind h kind to f =
     let found = some_from text behind _ (kind, to) f in
     let e : to ≡ place_of (left_at source text at) (found.0).rest =
-        sym (place_told source text at to h.opened (found.2).place) ∙ ap (place_of (left_at source text at)) (found.2).chars in
+    sym (place_told source text at to h.opened (found.2).place) ∙ ap (place_of (left_at source text at)) (found.2).chars in
     made _ _ _ _ _ _ (found.2).kind (sym (place_told source text at from h.opened h.place)) e
     ∙ sym (lexed_found source text at from c behind h (Some found.0) found.1)
   where

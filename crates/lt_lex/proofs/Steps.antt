@@ -29,7 +29,7 @@ pub ahead_ascii : (text : List ℕ) (at c : ℕ) → IsUtf8 text → IsCharBound
     → ahead_at text at ≡ c ∷ ahead_at text (at + 1)
 ahead_ascii text at c u b lt e h =
     chars_past_char (drop at text) (drop (at + 1) text) c (IsUtf8-drop text at u b)
-      (drop_more text at 0 lt ∙ ap (λ (x : ℕ). x ∷ drop (at + 1) text) e ∙ ap (λ (bs : List ℕ). bs ++ drop (at + 1) text) (sym (encode_ascii c h)))
+    (drop_more text at 0 lt ∙ ap (λ (x : ℕ). x ∷ drop (at + 1) text) e ∙ ap (λ (bs : List ℕ). bs ++ drop (at + 1) text) (sym (encode_ascii c h)))
 
 -- a comment ends before the next line feed
 line_by : (y : Bool) (c : ℕ) (cs : List ℕ) → (c == 10) ≡ y → behind_gap true cs ≡ behind_gap false (behind_run (λ x. not (x == 10)) cs)

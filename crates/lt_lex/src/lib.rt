@@ -1,14 +1,14 @@
 //! The tokens of a text, one at a time, with their places.
 #![tactic(auto)]
 
+mod ascii;
 mod scan;
 
 ghost use Rattle.std.specs.Prelude.{◌≡◌, ◌<◌, length};
 ghost use Rattle.lt_definitions.specs.Texts.{Left, left_of, lexed, after, ending, IsToken};
 
-use std::marker::Model;
-
 pub use lt_definitions::lexical::{Lexed, Token, TokenKind};
+use std::marker::Model;
 
 /// A text that is read token by token. Contracts see its bytes and the characters that are still ahead.
 #[derive(Drop)]
@@ -36,7 +36,11 @@ impl<'a> Lexer<'a> {
         ensures { result ≡ left_of source.now }
     {
         let text = scan::valid_front(source);
-        Lexer { source, text, at: 0 }
+        Lexer {
+            source,
+            text,
+            at: 0,
+        }
     }
 
     /// The next token, or why there is none; then the lexer stays where it is and answers the same again. It takes time in the bytes that it passes over.

@@ -8,6 +8,7 @@ ghost use Rattle.lt_definitions.specs.Tokens.{token_from, variable_at, colon_at,
 ghost use Rattle.lt_lex.specs.Places.{ahead_at, IsFound, IsBehind};
 
 use crate::TokenKind;
+use crate::ascii::{GOES_ON, STARTS};
 use unicode_ident::{is_xid_continue, is_xid_start};
 
 /// The longest front that is UTF-8.
@@ -131,12 +132,18 @@ fn past_digits(text: &str, mut at: usize) -> usize
 fn starts_name(c: char) -> bool
     ensures { result ≡ starts_name c }
 {
-    is_xid_start(c) | (c == '_')
+    if (c as u32) < 128 {
+        return STARTS[c as usize];
+    }
+    is_xid_start(c)
 }
 
 fn goes_on_name(c: char) -> bool
     ensures { result ≡ is_xid_continue c }
 {
+    if (c as u32) < 128 {
+        return GOES_ON[c as usize];
+    }
     is_xid_continue(c)
 }
 

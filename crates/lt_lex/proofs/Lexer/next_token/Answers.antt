@@ -3,7 +3,6 @@ use Rattle.lt_definitions.specs.Texts.{lexed, after, ending}
 use Rattle.lt_lex.proofs.Nexts.{Begins, lexed_end, lexed_none, lexed_some, after_some, place_found, shorter_told}
 use Rattle.lt_lex.proofs.Lexer.next_token.Goals as goal
 
-
 pub returns-in_default-token_from-clause-token : goal.returns-in_default-token_from-clause-token
 returns-in_default-token_from-clause-token c =
     lexed_none _ _ _ _ _ _ (record { opened = c.self.invariant; gap = c.past_gap-from.ensures.chars; place = c.past_gap-from.ensures.place; first = c.in-Some.ensures.chars }) c.in_default-token_from.ensures
