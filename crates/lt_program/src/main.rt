@@ -22,7 +22,7 @@ fn main(rt: HostRuntime) -> ExitCode {
     let Ok(words) = read_words(&rt) else {
         return ExitCode::from(5);
     };
-    let mut lib = FileLibrary::new(&rt);
+    let mut lib = FileLibrary::new(rt.alloc(), &rt);
     let mut out = StdSink::new(rt.stdout());
     let mut err = StdSink::new(rt.stderr());
     ExitCode::from(lt(rt.alloc(), &words, &mut lib, &mut out, &mut err))

@@ -1,0 +1,40 @@
+-- Places in a text, between its characters.
+use Rattle.std.specs.Prelude.{◌≡◌, ℕ, ◌≤◌, List, Option, Some, None, true, take, drop, chars, IsCharBoundary}
+use Rattle.std.specs.Str.{is_utf8}
+use Rattle.std.specs.Str.Lossy.{utf8_valid_len}
+use Rattle.lt_definitions.specs.declared.lexical.TokenKind.{TokenKind}
+use Rattle.lt_definitions.specs.Tokens.{Scanned}
+
+-- the characters from a place on
+abbrev pub ahead_at : List ℕ → ℕ → List ℕ
+ahead_at text at = chars (drop at text)
+
+-- the text is the longest front of the source that is UTF-8, and the place is in it
+pub record IsOpened (source text : List ℕ) (at : ℕ) : Type 0 where
+  pub front : text ≡ take (utf8_valid_len source) source
+  pub utf8 : is_utf8 text ≡ true
+  pub place : IsCharBoundary text at
+
+-- what is left at the later place is the image of what was left at the earlier
+pub record IsBehind (text : List ℕ) (at : ℕ) (f : List ℕ → List ℕ) (to : ℕ) : Type 0 where
+  pub chars : ahead_at text to ≡ f (ahead_at text at)
+  pub place : IsCharBoundary text to
+  pub later : at ≤ to
+
+-- a token is told by its kind and the place behind it
+pub record Ends (text : List ℕ) (at : ℕ) (t : Scanned) (p : TokenKind × ℕ) : Type 0 where
+  pub kind : p.0 ≡ t.kind
+  pub chars : ahead_at text p.1 ≡ t.rest
+  pub place : IsCharBoundary text p.1
+  pub later : at ≤ p.1
+
+abbrev pub IsFound : List ℕ → ℕ → Option Scanned → Option (TokenKind × ℕ) → Type 0
+IsFound text at None None = Unit {0}
+IsFound text at (Some t) (Some p) = Ends text at t p
+IsFound text at _ _ = ⊥
+
+-- on the way: what is left here has the same image as what was left at the start
+pub record Leads (text : List ℕ) (at : ℕ) (f : List ℕ → List ℕ) (to : ℕ) : Type 0 where
+  pub same : f (ahead_at text to) ≡ f (ahead_at text at)
+  pub place : IsCharBoundary text to
+  pub later : at ≤ to

@@ -1,0 +1,74 @@
+//! The tokens of a text, one at a time, with their places.
+#![tactic(auto)]
+
+mod ascii;
+mod scan;
+
+ghost use Rattle.std.specs.Prelude.{◌≡◌, ◌<◌, length};
+ghost use Rattle.lt_definitions.specs.Texts.{Left, left_of, lexed, after, ending, IsToken};
+
+pub use lt_definitions::lexical::{Lexed, Token, TokenKind};
+use std::marker::Model;
+
+/// A text that is read token by token. Contracts see its bytes and the characters that are still ahead.
+#[derive(Drop)]
+pub struct Lexer<'a> {
+    source: &'a [u8],
+    text: &'a str,
+    at: usize,
+}
+
+impl<'a> Model for Lexer<'a> {
+    ghost use Rattle.std.specs.Prelude.{chars, drop};
+    ghost use Rattle.lt_definitions.specs.Texts.{Left};
+    ghost use Rattle.lt_lex.specs.Places.{IsOpened};
+
+    ghost Value = { Left };
+
+    ghost view = { λ s. record { source = s.source.now; ahead = chars (drop s.at s.text.now) } };
+
+    ghost invariant = { λ s. IsOpened s.source.now s.text.now s.at };
+}
+
+impl<'a> Lexer<'a> {
+    /// The text from its begin. This tests once how far the bytes are UTF-8, so it takes time in the text's length; keep one lexer over a text.
+    pub fn new(source: &'a [u8]) -> Lexer<'a>
+        ensures { result ≡ left_of source.now }
+    {
+        let text = scan::valid_front(source);
+        Lexer {
+            source,
+            text,
+            at: 0,
+        }
+    }
+
+    /// The next token, or why there is none; then the lexer stays where it is and answers the same again. It takes time in the bytes that it passes over.
+    pub fn next_token(&mut self) -> Lexed
+        ensures token { result ≡ lexed self.old }
+        ensures left { self.new ≡ after self.old }
+        ensures shorter { IsToken result → length self.new.ahead < length self.old.ahead }
+    {
+        let from = scan::past_gap(self.text, self.at);
+        let Some((first, behind)) = scan::char_at(self.text, from) else {
+            return self.ending();
+        };
+        let Some((kind, to)) = scan::token_from(self.text, first, behind) else {
+            return Lexed::BadChar(from);
+        };
+        self.at = to;
+        Lexed::Token(Token { kind, from, to })
+    }
+
+    /// What stands where no character is left.
+    fn ending(&self) -> Lexed
+        ensures { result ≡ ending self.now }
+    {
+        let end = self.text.len();
+        if end == self.source.len() {
+            Lexed::End
+        } else {
+            Lexed::BadByte(end)
+        }
+    }
+}

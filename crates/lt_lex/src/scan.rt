@@ -1,0 +1,213 @@
+//! What stands at a place of a text: characters, runs of them, and tokens. A place is a number of bytes, and a character's bound.
+ghost use Rattle.std.specs.Prelude.{◌≡◌, ℕ, ◌<◌, ◌≤◌, [], ◌∷◌, MatchOption, ⊤, length, take, not, false, ◌==◌, IsUtf8, IsCharBoundary, encode_utf8_all};
+ghost use Rattle.std.specs.Char.{is_ascii_digit};
+ghost use Rattle.std.specs.Str.Lossy.{utf8_valid_len};
+ghost use Rattle.unicode_ident.specs.Ident.{is_xid_continue};
+ghost use Rattle.lt_definitions.specs.Characters.{is_white, starts_name, behind_run, behind_gap};
+ghost use Rattle.lt_definitions.specs.Tokens.{token_from, variable_at, colon_at, sign_of};
+ghost use Rattle.lt_lex.specs.Places.{ahead_at, IsFound, IsBehind};
+
+use crate::TokenKind;
+use crate::ascii::{GOES_ON, STARTS};
+use unicode_ident::{is_xid_continue, is_xid_start};
+
+/// The longest front that is UTF-8.
+pub(crate) fn valid_front<'a>(source: &'a [u8]) -> &'a str
+    ensures { result.now ≡ take (utf8_valid_len source.now) source.now }
+{
+    match str::from_utf8(source) {
+        Ok(text) => text,
+        Err(error) => front(source, error.valid_up_to()),
+    }
+}
+
+/// The front of the text, which is UTF-8 up to there.
+fn front<'a>(source: &'a [u8], end: usize) -> &'a str
+    requires utf8 { IsUtf8 (take end source.now) }
+    requires within { end ≤ length source.now }
+    ensures { result.now ≡ take end source.now }
+{
+    match str::from_utf8(&source[..end]) {
+        Ok(text) => text,
+        Err(_) => unreachable!(),
+    }
+}
+
+/// The character at a place, and the place behind it.
+#[inline(always)]
+pub(crate) fn char_at(text: &str, at: usize) -> Option<(char, usize)>
+    requires { IsCharBoundary text.now at }
+    ensures chars { MatchOption result (ahead_at text.now at ≡ []) (λ p. ahead_at text.now at ≡ p.0 ∷ ahead_at text.now p.1) }
+    ensures boundary { MatchOption result ⊤ (λ p. IsCharBoundary text.now p.1) }
+    ensures place { MatchOption result (at ≡ length text.now) (λ p. at < p.1) }
+{
+    let bytes = text.as_bytes();
+    if at == bytes.len() {
+        return None;
+    }
+    let byte = bytes[at];
+    if byte < 128 {
+        return Some((byte as char, at + 1));
+    }
+    wide_char_at(text, at)
+}
+
+/// The same where the character is longer than one byte.
+fn wide_char_at(text: &str, at: usize) -> Option<(char, usize)>
+    requires { IsCharBoundary text.now at }
+    ensures chars { MatchOption result (ahead_at text.now at ≡ []) (λ p. ahead_at text.now at ≡ p.0 ∷ ahead_at text.now p.1) }
+    ensures boundary { MatchOption result ⊤ (λ p. IsCharBoundary text.now p.1) }
+    ensures place { MatchOption result (at ≡ length text.now) (λ p. at < p.1) }
+{
+    let mut left = text[at..].chars();
+    let c = left.next()?;
+    Some((c, text.len() - left.as_str().len()))
+}
+
+/// The place behind white space and comments.
+pub(crate) fn past_gap(text: &str, mut at: usize) -> usize
+    requires { IsCharBoundary text.now at }
+    ensures { IsBehind text.now at (behind_gap false) result }
+{
+    'gap: while let Some((c, behind)) = char_at(text, at) {
+        if c == '#' {
+            at = past_line(text, behind);
+        } else if is_white(c) {
+            at = behind;
+        } else {
+            return at;
+        }
+    }
+    at
+}
+
+/// The place of the next line feed, or of the text's end.
+fn past_line(text: &str, mut at: usize) -> usize
+    requires { IsCharBoundary text.now at }
+    ensures { IsBehind text.now at (behind_run (λ c. not (c == 10))) result }
+{
+    'line: while let Some((c, behind)) = char_at(text, at) {
+        if c == '\n' {
+            return at;
+        }
+        at = behind;
+    }
+    at
+}
+
+fn is_white(c: char) -> bool
+    ensures { result ≡ is_white c }
+{
+    c == ' ' || c == '\t' || c == '\r' || c == '\n'
+}
+
+/// The place behind the characters that go on a name.
+fn past_name(text: &str, mut at: usize) -> usize
+    requires { IsCharBoundary text.now at }
+    ensures { IsBehind text.now at (behind_run is_xid_continue) result }
+{
+    'name: while let Some((c, behind)) = char_at(text, at) {
+        if !goes_on_name(c) {
+            return at;
+        }
+        at = behind;
+    }
+    at
+}
+
+/// The place behind the digits.
+fn past_digits(text: &str, mut at: usize) -> usize
+    requires { IsCharBoundary text.now at }
+    ensures { IsBehind text.now at (behind_run is_ascii_digit) result }
+{
+    'digits: while let Some((c, behind)) = char_at(text, at) {
+        if !c.is_ascii_digit() {
+            return at;
+        }
+        at = behind;
+    }
+    at
+}
+
+fn starts_name(c: char) -> bool
+    ensures { result ≡ starts_name c }
+{
+    if (c as u32) < 128 {
+        return STARTS[c as usize];
+    }
+    is_xid_start(c)
+}
+
+fn goes_on_name(c: char) -> bool
+    ensures { result ≡ is_xid_continue c }
+{
+    if (c as u32) < 128 {
+        return GOES_ON[c as usize];
+    }
+    is_xid_continue(c)
+}
+
+/// The token that begins with this character, and the place behind it.
+pub(crate) fn token_from(text: &str, first: char, behind: usize) -> Option<(TokenKind, usize)>
+    requires { IsCharBoundary text.now behind }
+    ensures { IsFound text.now behind (token_from first (ahead_at text.now behind)) result }
+{
+    if starts_name(first) {
+        return Some((TokenKind::Name, past_name(text, behind)));
+    }
+    if first.is_ascii_digit() {
+        return Some((TokenKind::Number, past_digits(text, behind)));
+    }
+    match first {
+        '\'' => variable_at(text, behind),
+        ':' => Some(colon_at(text, behind)),
+        _ => {
+            let kind = sign_of(first)?;
+            Some((kind, behind))
+        }
+    }
+}
+
+/// The type variable behind a quote.
+fn variable_at(text: &str, at: usize) -> Option<(TokenKind, usize)>
+    requires { IsCharBoundary text.now at }
+    ensures { IsFound text.now at (variable_at (ahead_at text.now at)) result }
+{
+    let (c, behind) = char_at(text, at)?;
+    if !starts_name(c) {
+        return None;
+    }
+    Some((TokenKind::TypeVariable, past_name(text, behind)))
+}
+
+/// The sign that a colon begins.
+fn colon_at(text: &str, at: usize) -> (TokenKind, usize)
+    requires { IsCharBoundary text.now at }
+    ensures { IsFound text.now at (Some (colon_at (ahead_at text.now at))) (Some result) }
+{
+    if let Some((c, behind)) = char_at(text, at) {
+        if c == '=' {
+            return (TokenKind::Becomes, behind);
+        }
+    }
+    (TokenKind::Colon, at)
+}
+
+/// The sign that is one character, but for the colon.
+fn sign_of(c: char) -> Option<TokenKind>
+    ensures { result ≡ sign_of c }
+{
+    match c {
+        '(' => Some(TokenKind::Open),
+        ')' => Some(TokenKind::Close),
+        '[' => Some(TokenKind::OpenSquare),
+        ']' => Some(TokenKind::CloseSquare),
+        '{' => Some(TokenKind::OpenBrace),
+        '}' => Some(TokenKind::CloseBrace),
+        ';' => Some(TokenKind::Semicolon),
+        '$' => Some(TokenKind::Dollar),
+        '%' => Some(TokenKind::Percent),
+        '\\' => Some(TokenKind::Backslash),
+        _ => None,
+    }
+}
