@@ -54,7 +54,10 @@ pub fn run<R: Print + Clock + Alloc<A = Global>>(rt: &R, words: &[String]) -> io
         let start = Instant::now(rt)?;
         let (count, ending) = count_tokens(&text);
         let micros = start.elapsed(rt)?.as_micros().max(1);
-        println!(rt; "lex: {count} tokens, {ending:?}, {micros} us, {} MB/s", text.len() as u128 / micros)?;
+        println!(rt;
+            "lex: {count} tokens, {ending:?}, {micros} us, {} MB/s",
+            text.len() as u128 / micros
+        )?;
     }
     Ok(())
 }
