@@ -37,7 +37,8 @@ impl<F: Read + Seek> OpenedFile<F> {
 ///
 /// A read opens its file at most once. The file stays open for the next piece: a read that goes on
 /// where the one before it ended, in the same file, neither opens nor seeks. A read at place 0 opens
-/// anew. A folder is a fault, and a pipe or a device gives its bytes in turn.
+/// anew. A folder is a fault, and a pipe or a device gives its bytes in turn. The library holds a piece of
+/// 65,536 bytes, by which its reads go.
 #[derive(Drop)]
 pub struct FileLibrary<'a, R: Files> {
     files: &'a R,
