@@ -10,6 +10,7 @@ use std::alloc::Global;
 use std::fs::File;
 use std::io;
 use std::io::{Read, Seek, SeekFrom, Write};
+use std::marker::Model;
 use std::rt::Files;
 
 /// An open file, with the place where its next byte stands.
@@ -33,11 +34,12 @@ impl<F: Read + Seek> OpenedFile<F> {
     }
 }
 
-/// The files of a runtime, by their paths.
+/// The files of a runtime, by their paths. Contracts see its count of faults.
 ///
 /// A read opens its file at most once. The file stays open for the next piece: a read that goes on
 /// where the one before it ended, in the same file, neither opens nor seeks. A read at place 0 opens
-/// anew. A folder is a fault, and a pipe or a device gives its bytes in turn.
+/// anew. A folder is a fault, and a pipe or a device gives its bytes in turn. The library holds a piece of
+/// 65,536 bytes, by which its reads go.
 #[derive(Drop)]
 pub struct FileLibrary<'a, R: Files> {
     files: &'a R,
@@ -47,10 +49,18 @@ pub struct FileLibrary<'a, R: Files> {
     faults: u64,
 }
 
+impl<'a, R: Files> Model for FileLibrary<'a, R> {
+    ghost use Rattle.std.specs.Prelude.{ℕ};
+
+    ghost Value = { ℕ };
+
+    ghost view = { λ s. s.faults };
+}
+
 impl<'a, R: Files> FileLibrary<'a, R> {
     /// A library that has no file open.
     pub fn new(alloc: Global, files: &'a R) -> Self
-        ensures { result.faults ≡ 0 }
+        ensures { result ≡ 0 }
     {
         FileLibrary {
             files,
@@ -63,7 +73,7 @@ impl<'a, R: Files> FileLibrary<'a, R> {
 
     /// The open file, where it is the named one and the read isn't at its front. Else it is opened.
     fn take_opened(&mut self, name: &str, at: u64) -> io::Result<OpenedFile<R::File>>
-        ensures faults { self.new.faults ≡ self.old.faults }
+        ensures count { self.new ≡ self.old }
     {
         let opened = self.opened.take();
         if let Some(opened) = opened
@@ -78,7 +88,7 @@ impl<'a, R: Files> FileLibrary<'a, R> {
 
     /// Keeps the file open for the next piece. Without memory for its name it is closed.
     fn keep_opened(&mut self, name: &str, opened: OpenedFile<R::File>)
-        ensures faults { self.new.faults ≡ self.old.faults }
+        ensures count { self.new ≡ self.old }
     {
         if self.name.as_str() != name {
             self.name.clear();
@@ -92,7 +102,7 @@ impl<'a, R: Files> FileLibrary<'a, R> {
     /// Reads into the library's own piece, so that a failed read leaves the caller's slice alone.
     fn read_piece(&mut self, name: &str, at: u64, room: usize) -> io::Result<usize>
         ensures bound { IfOk result (λ n. n ≤ min room 65536) }
-        ensures faults { self.new.faults ≡ self.old.faults }
+        ensures count { self.new ≡ self.old }
     {
         let mut opened = self.take_opened(name, at)?;
         let count = opened.read_from(at, &mut self.piece[..room.min(PIECE)])?;
@@ -106,15 +116,15 @@ impl<'a, R: Files> FileLibrary<'a, R> {
 impl<'a, R: Files> Library for FileLibrary<'a, R> {
     ghost files = { λ _. None };
 
-    ghost faults = { λ s. s.faults };
+    ghost faults = { λ count. count };
 
     fn read(&mut self, name: &str, at: u64, into: &mut [u8]) -> Result<usize, Failed>
         ensures bound { IfOk result (λ n. n ≤ length into.new) }
         ensures bytes { IfOk result (λ n. HoldsFile None name.now
             (λ file. IsPiece file at n into.new)) }
         ensures untouched { OnErr result (into.new ≡ into.old) }
-        ensures counted { CountsFault self.old.faults self.new.faults result }
-        ensures cause { HasCause self.old.faults self.new.faults result }
+        ensures counted { CountsFault self.old self.new result }
+        ensures cause { HasCause self.old self.new result }
     {
         match self.read_piece(name, at, into.len()) {
             Ok(count) => {
@@ -129,17 +139,25 @@ impl<'a, R: Files> Library for FileLibrary<'a, R> {
     }
 }
 
-/// A writer of std as a sink.
+/// A writer of std as a sink. Contracts see its count of faults.
 #[derive(Drop)]
 pub struct StdSink<W> {
     inner: W,
     faults: u64,
 }
 
+impl<W> Model for StdSink<W> {
+    ghost use Rattle.std.specs.Prelude.{ℕ};
+
+    ghost Value = { ℕ };
+
+    ghost view = { λ s. s.faults };
+}
+
 impl<W: Write> StdSink<W> {
     /// The writer, without a fault so far.
     pub fn new(inner: W) -> Self
-        ensures { result.faults ≡ 0 }
+        ensures { result ≡ 0 }
     {
         StdSink { inner, faults: 0 }
     }
@@ -148,13 +166,13 @@ impl<W: Write> StdSink<W> {
 impl<W: Write> Sink for StdSink<W> {
     ghost written = { λ _. None };
 
-    ghost faults = { λ s. s.faults };
+    ghost faults = { λ count. count };
 
     fn write(&mut self, piece: &[u8]) -> Result<usize, Failed>
         ensures bound { IfOk result (λ n. n ≤ length piece.now) }
-        ensures none { IfOk result (λ n. n ≡ 0 → 0 < length piece.now → Rose self.old.faults self.new.faults) }
-        ensures counted { CountsFault self.old.faults self.new.faults result }
-        ensures cause { HasCause self.old.faults self.new.faults result }
+        ensures none { IfOk result (λ n. n ≡ 0 → 0 < length piece.now → Rose self.old self.new) }
+        ensures counted { CountsFault self.old self.new result }
+        ensures cause { HasCause self.old self.new result }
     {
         match self.inner.write(piece) {
             Ok(count) if count > 0 || piece.is_empty() => Ok(count),
