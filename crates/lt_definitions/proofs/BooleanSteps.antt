@@ -399,8 +399,7 @@ pub derivations_keep_booleans : (sig : Signature) (named : List (Chars × TermTr
     → IsSoundSignature sig → AreBooleanStatements sig named → All (IsBooleanSequent sig) done → Derives sig named done lines ss → All (IsBooleanSequent sig) ss
 derivations_keep_booleans sig named done lines ss h n g d = of-goods sig ss (derives-good sig named done lines ss h n (goods-of sig done g) d)
 
-pub theories_are_sound : (items : List Item) → IsPlainTheory items → IsSoundSignature (context_of empty items).signature
-    × AreBooleanStatements (context_of empty items).signature (context_of empty items).statements
-theories_are_sound items v =
+pub signatures_are_sound : (items : List Item) → IsPlainTheory items → IsSoundSignature (context_of empty items).signature
+signatures_are_sound items v =
     let s : IsSound (context_of empty items) = sound-items empty items sound-empty v in
-    (record { built = s.built; consts = s.consts }, λ l p e. (s.stated l p e).0)
+    record { built = s.built; consts = s.consts }

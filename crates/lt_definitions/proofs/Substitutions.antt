@@ -156,14 +156,14 @@ or-right : (a b : Bool) → b ≡ true → (a || b) ≡ true
 or-right true b e = refl
 or-right false b e = e
 
-append-left : (a : Chars) (xs ys : List Chars) → has_name a xs ≡ true → has_name a (xs ++ ys) ≡ true
+pub append-left : (a : Chars) (xs ys : List Chars) → has_name a xs ≡ true → has_name a (xs ++ ys) ≡ true
 append-left a [] ys e = absurd (true-false (sym e))
 append-left a (x ∷ xs) ys e = elim (either (same_name a x) (has_name a xs) e) [
   | inl h ↦ or-left (same_name a x) (has_name a (xs ++ ys)) h
   | inr h ↦ or-right (same_name a x) (has_name a (xs ++ ys)) (append-left a xs ys h)
 ]
 
-append-right : (a : Chars) (xs ys : List Chars) → has_name a ys ≡ true → has_name a (xs ++ ys) ≡ true
+pub append-right : (a : Chars) (xs ys : List Chars) → has_name a ys ≡ true → has_name a (xs ++ ys) ≡ true
 append-right a [] ys e = e
 append-right a (x ∷ xs) ys e = or-right (same_name a x) (has_name a (xs ++ ys)) (append-right a xs ys e)
 
@@ -187,7 +187,7 @@ joined-keeps : (a : Chars) (xs ys : List Chars) → has_name a xs ≡ true → h
 joined-keeps a xs [] e = e
 joined-keeps a xs (y ∷ ys) e = joined-keeps a (joined_one xs y) ys (one-keeps a y xs e)
 
-joined-has : (a : Chars) (xs ys : List Chars) → has_name a ys ≡ true → has_name a (names_joined xs ys) ≡ true
+pub joined-has : (a : Chars) (xs ys : List Chars) → has_name a ys ≡ true → has_name a (names_joined xs ys) ≡ true
 joined-has a xs [] e = absurd (true-false (sym e))
 joined-has a xs (y ∷ ys) e = elim (either (same_name a y) (has_name a ys) e) [
   | inl h ↦ joined-keeps a (joined_one xs y) ys (one-has a y xs h)
