@@ -1,12 +1,12 @@
 -- Alpha equality is an equivalence, and is kept by opening, closing, replacing and type instances.
-use Rattle.std.proofs.Common.{◌≡◌, inl, inr, ℕ, List, [], ◌∷◌, ◌++◌, Bool, true, false, ◌&&◌, ◌||◌, not, refl, sym, ◌∙◌, ap, append_assoc, append-nil}
+use Rattle.std.proofs.Common.{◌≡◌, inl, inr, List, [], ◌∷◌, ◌++◌, Bool, true, false, ◌&&◌, ◌||◌, not, refl, sym, ◌∙◌, ap, append_assoc, append-nil}
 use Rattle.lt_definitions.specs.Types.{Chars, same_name, has_name, TypeTree, TypeMap}
 use Rattle.lt_definitions.specs.Terms.{TermTree, free_variable, bound_name, constant, application, abstraction, has_free, has_loose, term_instance}
 use Rattle.lt_definitions.specs.Alpha.{AreAlpha}
 use Rattle.lt_definitions.specs.Binding.{opened, replaced, Closes, closed_over}
-use Rattle.lt_definitions.specs.Nameless.{Nameless, nameless_free, nameless_bound, nameless_loose, nameless_constant, nameless_application, nameless_abstraction, deeper, nameless_name, nameless}
+use Rattle.lt_definitions.specs.Nameless.{Nameless, nameless_bound, nameless_loose, nameless_application, nameless_abstraction, deeper, nameless_name, nameless}
 use Rattle.lt_definitions.specs.NamelessRules.{instance_at, abstracted, nameless_replaced, nameless_instance, nameless_has_free}
-use Rattle.lt_definitions.proofs.Tests.{true-false, bool_cases, name-true, true-name, name-false, false-name}
+use Rattle.lt_definitions.proofs.Tests.{bool_cases, name-true, name-false, false-name}
 use Rattle.lt_definitions.proofs.Alphas.{name-hit, name-miss, alpha-nameless, nameless-alpha}
 use Rattle.lt_definitions.proofs.Bridges.{IsScoped, opened-nameless, closed-nameless, replaced-nameless, instance-nameless, free-nameless, not-loose}
 use Rattle.lt_definitions.proofs.Closings.{closings_are_alpha}

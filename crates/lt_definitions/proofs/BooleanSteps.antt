@@ -1,10 +1,10 @@
 -- What a rule gives from boolean sequents is a boolean sequent.
-use Rattle.std.proofs.Common.{◌≡◌, ℕ, zero, suc, ◌<◌, List, [], ◌∷◌, ◌++◌, Bool, true, false, ◌&&◌, not, if◌then◌else◌, length, map, slice_get, slice_index_or, Option, Some, None, Result, Ok, Err, codes, refl, sym, ◌∙◌, ap, subst, arith}
+use Rattle.std.proofs.Common.{◌≡◌, ℕ, zero, suc, List, [], ◌∷◌, ◌++◌, Bool, true, false, ◌&&◌, not, if◌then◌else◌, map, slice_get, Option, Some, None, Result, Ok, Err, codes, refl, sym, ◌∙◌, ap, subst, arith}
 use Rattle.std.specs.List.{All, list_any}
 use Rattle.std.specs.Result.{result_unwrap_or}
 use Rattle.lt_definitions.specs.Types.{Chars, same_name, found, TypeTree, TypeMap, type_variable, type_constructor, no_types, type_and, bool, fun, row, same_type}
 use Rattle.lt_definitions.specs.Terms.{TermTree, bound_name, constant, application, abstraction, equation, implies, for_all, some_of, falsity, has_free, has_loose, term_instance}
-use Rattle.lt_definitions.specs.Typing.{Signature, built_in, Fault, mismatch, earlier, type_fault, types_fault, at_types, applied_type, typed, HasType, is_of_type, has_type}
+use Rattle.lt_definitions.specs.Typing.{Signature, built_in, Fault, earlier, type_fault, types_fault, at_types, applied_type, typed, HasType, is_of_type, has_type}
 use Rattle.lt_definitions.specs.Alpha.{AreAlpha, is_alpha}
 use Rattle.lt_definitions.specs.Binding.{opened, replaced, new_binder, closed_over}
 use Rattle.lt_definitions.specs.Rules.{Sequent, Reason, missing_line, not_bool, not_equation, middle_differs, type_differs, variable_in_hypothesis, not_redex, not_implication, not_forall, unknown_label, Rule, by_assume, by_weaken, by_refl, by_sym, by_trans, by_cong, by_abs, by_beta, by_eta, by_eqmp, by_impI, by_mp, by_allI, by_allE, by_iff, by_inst, by_tinst, by_select, by_ccontr, by_thm, has_term, union, without, distinct, Outcome, gives, where_holds, with_found, line_at, as_equation, as_implication, as_forall, at_argument, beta_of, eta_of, type_of, predicate_over, joined_type, ok_of, selection, step}
@@ -12,7 +12,7 @@ use Rattle.lt_definitions.specs.Derivations.{Derives, rule_fault, term_fault, Is
 use Rattle.lt_definitions.specs.Booleans.{IsSoundSignature, IsBoolean, IsBooleanSequent, AreBooleanStatements}
 use Rattle.lt_definitions.specs.NamelessRules.{nameless_typed}
 use Rattle.lt_definitions.specs.Theory.{Item, empty, context_of, IsPlainTheory}
-use Rattle.lt_definitions.proofs.Tests.{true-false, bool_cases, both-true, name-true, type-true}
+use Rattle.lt_definitions.proofs.Tests.{true-false, both-true, name-true, type-true}
 use Rattle.lt_definitions.proofs.Alphas.{alpha-nameless, alpha-is}
 use Rattle.lt_definitions.proofs.Typings.{typed-has, has-typed, applied-ok}
 use Rattle.lt_definitions.proofs.NamelessTyping.{typed-nameless, typed-of}
@@ -325,9 +325,11 @@ good-step sig named done (by_cong i j) s n d t = good-found sig missing_line (li
     good-found sig not_equation (as_equation u.concl) _ (λ q a. good-found sig not_equation (as_equation v.concl) _ (λ r b.
     let k = equation-sides sig s.built u.concl q h.1 a in let l = equation-sides sig s.built v.concl r g.1 b in
     good-found sig type_differs (joined_type q.0 r.0) _ (λ ty c.
-    let is : q.0 ≡ fun r.0 ty = applied-ok q.0 r.0 ty (joined-ok (applied_type q.0 r.0) ty c) in
-    (union-boolean sig u.hyps v.hyps h.0 g.0, equal sig s ty (application q.1 r.1) (application q.2 r.2)
-    (r.0, subst (λ (w : TypeTree). HasType sig [] q.1 w) is k.0, l.0) (r.0, subst (λ (w : TypeTree). HasType sig [] q.2 w) is k.1, l.1)))))))
+    let is : q.0 ≡ fun r.0 ty = applied-ok q.0 r.0 ty (joined-ok (applied_type q.0 r.0) ty c) in (
+      union-boolean sig u.hyps v.hyps h.0 g.0,
+      equal sig s ty (application q.1 r.1) (application q.2 r.2)
+          (r.0, subst (λ (w : TypeTree). HasType sig [] q.1 w) is k.0, l.0) (r.0, subst (λ (w : TypeTree). HasType sig [] q.2 w) is k.1, l.1),
+    ))))))
 good-step sig named done (by_abs x ty i) s n d t = good-found sig missing_line (line_at done i) _ (λ u e. let h = line-good sig done i u d e in
     good-found sig not_equation (as_equation u.concl) _ (λ q f. let k = equation-sides sig s.built u.concl q h.1 f in
     good-holds sig (not (list_any (has_free x ty) u.hyps)) variable_in_hypothesis (gives u.hyps (equation (fun ty q.0) (closed_over x ty q.1) (closed_over x ty q.2)))
@@ -364,22 +366,26 @@ good-step sig named done (by_iff i j) s n d t = good-found sig missing_line (lin
     (union-boolean sig u.hyps v.hyps h.0 g.0, equal sig s bool q.0 q.1 k.0 k.1))))))
 good-step sig named done (by_inst x ty p i) s n d t = good-found sig missing_line (line_at done i) _ (λ u e. let h = line-good sig done i u d e in
     good-holds sig (has_type sig p ty) type_differs (gives (distinct (map (replaced x ty p) u.hyps)) (replaced x ty p u.concl)) (λ c.
-    let k = has-of sig p ty c in
-    (union-boolean sig [] (map (replaced x ty p) u.hyps) tt (map-boolean sig (replaced x ty p) (λ w l. replaced-has sig [] x ty p w bool k l) u.hyps h.0),
-    replaced-has sig [] x ty p u.concl bool k h.1)))
+    let k = has-of sig p ty c in (
+      union-boolean sig [] (map (replaced x ty p) u.hyps) tt (map-boolean sig (replaced x ty p) (λ w l. replaced-has sig [] x ty p w bool k l) u.hyps h.0),
+      replaced-has sig [] x ty p u.concl bool k h.1,
+    )))
 good-step sig named done (by_tinst a ty i) s n d t = let m : TypeMap = (a, ty) ∷ [] in
     let sound : types_fault sig (row (ty ∷ [])) ≡ None = none-both (type_fault sig ty) None t refl in
-    good-found sig missing_line (line_at done i) _ (λ u e. let h = line-good sig done i u d e in
-    (union-boolean sig [] (map (term_instance m) u.hyps) tt (map-boolean sig (term_instance m) (λ w l. instance-has sig (a ∷ []) (ty ∷ []) [] w bool sound l) u.hyps h.0),
-    instance-has sig (a ∷ []) (ty ∷ []) [] u.concl bool sound h.1))
+    good-found sig missing_line (line_at done i) _ (λ u e. let h = line-good sig done i u d e in (
+      union-boolean sig [] (map (term_instance m) u.hyps) tt (map-boolean sig (term_instance m) (λ w l. instance-has sig (a ∷ []) (ty ∷ []) [] w bool sound l) u.hyps h.0),
+      instance-has sig (a ∷ []) (ty ∷ []) [] u.concl bool sound h.1,
+    ))
 good-step sig named done (by_select p) s n d t = let h = typed-as sig p t in
     good-found sig type_differs (predicate_over (type_of sig p)) _ (λ ty e.
     let k = subst (λ (w : TypeTree). HasType sig [] p w) (predicate-is (type_of sig p) ty e) h in
     (tt, selection-typed sig s.built ty p (sound-fun sig ty bool (sound-of sig s p (fun ty bool) k)).0 k))
 good-step sig named done (by_ccontr p) s n d t = good-holds sig (has_type sig p bool) not_bool (gives [] (implies (implies (implies p falsity) falsity) p)) (λ c.
-    let h = has-of sig p bool c in let f = falsity-typed sig s.built in
-    (tt, implies-typed sig s.built [] (implies (implies p falsity) falsity) p
-    (implies-typed sig s.built [] (implies p falsity) falsity (implies-typed sig s.built [] p falsity h f) f) h))
+    let h = has-of sig p bool c in let f = falsity-typed sig s.built in (
+      tt,
+      implies-typed sig s.built [] (implies (implies p falsity) falsity) p
+          (implies-typed sig s.built [] (implies p falsity) falsity (implies-typed sig s.built [] p falsity h f) f) h,
+    ))
 good-step sig named done (by_thm l) s n d t = good-found sig unknown_label (found l named) _ (λ p e. (tt, n l p e))
 
 pub rules_keep_booleans : (sig : Signature) (named : List (Chars × TermTree)) (done : List Sequent) (line : Rule) (s : Sequent)

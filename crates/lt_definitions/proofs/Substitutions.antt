@@ -1,10 +1,10 @@
 -- Opening, closing, replacing and type instances keep types.
-use Rattle.std.proofs.Common.{◌≡◌, ◌⊎◌, inl, inr, ℕ, suc, ◌<◌, List, [], ◌∷◌, ◌++◌, Bool, true, false, ◌&&◌, ◌||◌, not, if◌then◌else◌, Option, Some, None, unwrap_or, length, map, refl, sym, ◌∙◌, ap, subst, arith}
+use Rattle.std.proofs.Common.{◌≡◌, ◌⊎◌, inl, inr, ◌<◌, List, [], ◌∷◌, ◌++◌, Bool, true, false, ◌&&◌, ◌||◌, not, if◌then◌else◌, Some, None, unwrap_or, length, map, refl, sym, ◌∙◌, ap, subst, arith}
 use Rattle.std.specs.List.{zip}
 use Rattle.std.proofs.lemmas.List.{length-map}
 use Rattle.lt_definitions.specs.Types.{Chars, same_name, has_name, names_joined, found, TypeTree, TypeTrees, TypeMap, type_variable, type_constructor, no_types, type_and, fun, row, same_type, type_names, types_names, type_variables, type_instance, types_instance}
 use Rattle.lt_definitions.specs.Terms.{TermTree, free_variable, bound_name, constant, application, abstraction, has_loose, term_instance}
-use Rattle.lt_definitions.specs.Typing.{Signature, type_fault, types_fault, at_types, HasType}
+use Rattle.lt_definitions.specs.Typing.{Signature, type_fault, types_fault, HasType}
 use Rattle.lt_definitions.specs.Binding.{opened, replaced, longest, new_binder, closed_over}
 use Rattle.lt_definitions.proofs.Tests.{true-false, bool_cases, both-true, name-true, true-name, name-false, false-name, type-true}
 use Rattle.lt_definitions.proofs.Bridges.{if-true, if-false, new_is_longer}
@@ -72,12 +72,17 @@ opened-has sig env x u by (bound_name y) ty e k h = elim (bool_cases (same_name 
 opened-has sig env x u by (constant c ts) ty e k h = h
 opened-has sig env x u by (application f a) ty e k h =
     (h.0, opened-has sig env x u by f (fun h.0 ty) e k h.1, opened-has sig env x u by a h.0 e k h.2)
-opened-has sig env x u by (abstraction y w b) ty e k h = (h.0, h.1, elim (bool_cases (same_name x y)) [
-  | inl s ↦ subst (λ (t : TermTree). HasType sig ((y, w) ∷ env) t h.0) (sym (if-true (same_name x y) b (opened x by b) s))
-      (hidden-has sig ((y, w) ∷ env) x u w b h.0 (if-true (same_name x y) (Some w) (found x env) s) h.2)
-  | inr s ↦ subst (λ (t : TermTree). HasType sig ((y, w) ∷ env) t h.0) (sym (if-false (same_name x y) b (opened x by b) s))
-      (opened-has sig ((y, w) ∷ env) x u by b h.0 (not-under env x y w s e) k h.2)
-], h.3)
+opened-has sig env x u by (abstraction y w b) ty e k h = (
+  h.0,
+  h.1,
+  elim (bool_cases (same_name x y)) [
+    | inl s ↦ subst (λ (t : TermTree). HasType sig ((y, w) ∷ env) t h.0) (sym (if-true (same_name x y) b (opened x by b) s))
+        (hidden-has sig ((y, w) ∷ env) x u w b h.0 (if-true (same_name x y) (Some w) (found x env) s) h.2)
+    | inr s ↦ subst (λ (t : TermTree). HasType sig ((y, w) ∷ env) t h.0) (sym (if-false (same_name x y) b (opened x by b) s))
+        (opened-has sig ((y, w) ∷ env) x u by b h.0 (not-under env x y w s e) k h.2)
+  ],
+  h.3,
+)
 
 neither : (a b : Bool) → (a || b) ≡ false → (a ≡ false) × (b ≡ false)
 neither false b e = (refl, e)
@@ -92,10 +97,15 @@ not-loose-has sig env x u (constant c ts) ty e h = h
 not-loose-has sig env x u (application f a) ty e h =
     let k = neither (has_loose x f) (has_loose x a) e in
     (h.0, not-loose-has sig env x u f (fun h.0 ty) k.0 h.1, not-loose-has sig env x u a h.0 k.1 h.2)
-not-loose-has sig env x u (abstraction y w b) ty e h = (h.0, h.1, elim (bool_cases (same_name x y)) [
-  | inl s ↦ hidden-has sig ((y, w) ∷ env) x u w b h.0 (if-true (same_name x y) (Some w) (found x env) s) h.2
-  | inr s ↦ not-loose-has sig ((y, w) ∷ env) x u b h.0 (sym (ap (λ v. not v && has_loose x b) s) ∙ e) h.2
-], h.3)
+not-loose-has sig env x u (abstraction y w b) ty e h = (
+  h.0,
+  h.1,
+  elim (bool_cases (same_name x y)) [
+    | inl s ↦ hidden-has sig ((y, w) ∷ env) x u w b h.0 (if-true (same_name x y) (Some w) (found x env) s) h.2
+    | inr s ↦ not-loose-has sig ((y, w) ∷ env) x u b h.0 (sym (ap (λ v. not v && has_loose x b) s) ∙ e) h.2
+  ],
+  h.3,
+)
 
 -- replacing
 

@@ -1,6 +1,6 @@
 -- Small types, terms, statements and theories of which the examples speak.
 use Prim.Native.String.{String}
-use Rattle.std.specs.Prelude.{ℕ, List, [], ◌∷◌, ◌++◌, Bool, true, false, ◌&&◌, Option, Some, None, Result, Ok, Err, codes}
+use Rattle.std.specs.Prelude.{ℕ, List, [], ◌∷◌, ◌++◌, Bool, false, ◌&&◌, Option, Some, None, Result, Ok, Err, codes}
 use Rattle.std.specs.Cmp.Lexicographic.{pointwise}
 use Rattle.lt_definitions.specs.Types.{Chars, TypeTree, type_variable, type_constructor, bool, fun, row}
 use Rattle.lt_definitions.specs.Terms.{TermTree, free_variable, bound_name, constant, application, abstraction, equation, implies, for_all}
@@ -8,7 +8,7 @@ use Rattle.lt_definitions.specs.Typing.{Signature, built_in}
 use Rattle.lt_definitions.specs.Alpha.{is_alpha}
 use Rattle.lt_definitions.specs.Rules.{Sequent, Rule}
 use Rattle.lt_definitions.specs.Derivations.{LineFault, derived}
-use Rattle.lt_definitions.specs.Items.{Item, type_item, const_item, axiom_item, lemma_item, typedef_item, Context, empty, context_of}
+use Rattle.lt_definitions.specs.Items.{Item, type_item, const_item, axiom_item, typedef_item, Context, empty, context_of}
 
 -- 'a
 abbrev pub tyvar : String → TypeTree

@@ -11,9 +11,7 @@ ghost use Rattle.lt_definitions.specs.Samples.{tyvar, free, bound, con_at, app, 
 pub fn alpha_with_shadowing()
     ensures inner { is_alpha (lambda "x" bool (lambda "x" bool (bound "x"))) (lambda "x" bool (lambda "y" bool (bound "y"))) ≡ true }
     ensures outer { is_alpha (lambda "x" bool (lambda "x" bool (bound "x"))) (lambda "x" bool (lambda "y" bool (bound "x"))) ≡ false }
-    ensures crossed {
-        is_alpha (lambda "x" bool (lambda "y" bool (app (bound "x") (bound "y")))) (lambda "y" bool (lambda "x" bool (app (bound "y") (bound "x")))) ≡ true
-    }
+    ensures crossed { is_alpha (lambda "x" bool (lambda "y" bool (app (bound "x") (bound "y")))) (lambda "y" bool (lambda "x" bool (app (bound "y") (bound "x")))) ≡ true }
     ensures types_count { is_alpha (lambda "x" bool (bound "x")) (lambda "x" (tyvar "a") (bound "x")) ≡ false }
 {}
 
@@ -29,10 +27,8 @@ pub fn alpha_with_loose_names()
 
 /// A bound name becomes the number of binders between it and its own, and a loose name stays.
 pub fn nameless_forms()
-    ensures indices {
-        nameless [] (lambda "x" bool (lambda "y" bool (app (bound "x") (bound "y"))))
-            ≡ nameless_abstraction bool (nameless_abstraction bool (nameless_application (nameless_bound 1) (nameless_bound 0)))
-    }
+    ensures indices { nameless [] (lambda "x" bool (lambda "y" bool (app (bound "x") (bound "y"))))
+        ≡ nameless_abstraction bool (nameless_abstraction bool (nameless_application (nameless_bound 1) (nameless_bound 0))) }
     ensures shadowed { nameless [] (lambda "x" bool (lambda "x" bool (bound "x"))) ≡ nameless_abstraction bool (nameless_abstraction bool (nameless_bound 0)) }
     ensures loose { nameless [] (lambda "x" bool (bound "z")) ≡ nameless_abstraction bool (nameless_loose (codes "z")) }
     ensures free_stays { nameless [] (lambda "x" bool (free "x" bool)) ≡ nameless_abstraction bool (nameless_free (codes "x") bool) }
@@ -62,25 +58,17 @@ pub fn replacing()
 /// A closing binds the free variable and no other name.
 pub fn closing()
     ensures closed { is_alpha (closed_over (codes "x") bool (free "x" bool)) (lambda "x" bool (bound "x")) ≡ true }
-    ensures under_its_name {
-        is_alpha (closed_over (codes "x") bool (lambda "x" bool (app (free "x" bool) (bound "x")))) (lambda "y" bool (lambda "z" bool (app (bound "y") (bound "z")))) ≡ true
-    }
+    ensures under_its_name { is_alpha (closed_over (codes "x") bool (lambda "x" bool (app (free "x" bool) (bound "x")))) (lambda "y" bool (lambda "z" bool (app (bound "y") (bound "z")))) ≡ true }
     ensures other_type { is_alpha (closed_over (codes "x") bool (free "x" (tyvar "a"))) (lambda "y" bool (free "x" (tyvar "a"))) ≡ true }
 {}
 
 /// A type is put under a binder and captures nothing: the binder and the free variable of its name get one type and stay two.
 pub fn type_instance_under_a_binder()
-    ensures instance {
-        term_instance ((codes "a", bool) ∷ []) (lambda "x" (tyvar "a") (free "x" bool)) ≡ lambda "x" bool (free "x" bool)
-    }
-    ensures not_captured {
-        is_alpha (term_instance ((codes "a", bool) ∷ []) (lambda "x" (tyvar "a") (free "x" bool))) (lambda "x" bool (bound "x")) ≡ false
-    }
+    ensures instance { term_instance ((codes "a", bool) ∷ []) (lambda "x" (tyvar "a") (free "x" bool)) ≡ lambda "x" bool (free "x" bool) }
+    ensures not_captured { is_alpha (term_instance ((codes "a", bool) ∷ []) (lambda "x" (tyvar "a") (free "x" bool))) (lambda "x" bool (bound "x")) ≡ false }
     ensures constants_too { term_instance ((codes "a", bool) ∷ []) (con_at "eq" (tyvar "a" ∷ [])) ≡ con_at "eq" (bool ∷ []) }
     ensures free_variables_too { term_instance ((codes "a", bool) ∷ []) (free "x" (tyvar "a")) ≡ free "x" bool }
-    ensures at_once {
-        term_instance ((codes "a", tyvar "b") ∷ (codes "b", tyvar "a") ∷ []) (lambda "x" (tyvar "a") (free "y" (tyvar "b"))) ≡ lambda "x" (tyvar "b") (free "y" (tyvar "a"))
-    }
+    ensures at_once { term_instance ((codes "a", tyvar "b") ∷ (codes "b", tyvar "a") ∷ []) (lambda "x" (tyvar "a") (free "y" (tyvar "b"))) ≡ lambda "x" (tyvar "b") (free "y" (tyvar "a")) }
 {}
 
 /// A bound name is loose where no binder of it stands around it.

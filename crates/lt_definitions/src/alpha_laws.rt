@@ -27,25 +27,19 @@ pub fn alpha_is_an_equivalence()
 
 /// Bodies of alpha-equal abstractions, opened by alpha-equal terms without loose names, are alpha-equal.
 pub fn alpha_kept_by_opening()
-    ensures {
-        (x y : Chars) (ty u : TypeTree) (b c by also : TermTree) → IsAlphaEqual (abstraction x ty b) (abstraction y u c) → IsAlphaEqual by also
-            → HasNoLooseNames by → IsAlphaEqual (opened x by b) (opened y also c)
-    }
+    ensures { (x y : Chars) (ty u : TypeTree) (b c by also : TermTree) → IsAlphaEqual (abstraction x ty b) (abstraction y u c) → IsAlphaEqual by also
+        → HasNoLooseNames by → IsAlphaEqual (opened x by b) (opened y also c) }
 {}
 
 /// Closings of alpha-equal terms are alpha-equal.
 pub fn alpha_kept_by_closing()
-    ensures {
-        (x : Chars) (ty : TypeTree) (s t c d : TermTree) → IsAlphaEqual s t → Closes x ty s c → Closes x ty t d → IsAlphaEqual c d
-    }
+    ensures { (x : Chars) (ty : TypeTree) (s t c d : TermTree) → IsAlphaEqual s t → Closes x ty s c → Closes x ty t d → IsAlphaEqual c d }
 {}
 
 /// Alpha-equal terms stay so where a free variable is replaced by alpha-equal terms without loose names.
 pub fn alpha_kept_by_replacing()
-    ensures {
-        (x : Chars) (ty : TypeTree) (s t by also : TermTree) → IsAlphaEqual s t → IsAlphaEqual by also
-            → HasNoLooseNames by → IsAlphaEqual (replaced x ty by s) (replaced x ty also t)
-    }
+    ensures { (x : Chars) (ty : TypeTree) (s t by also : TermTree) → IsAlphaEqual s t → IsAlphaEqual by also
+        → HasNoLooseNames by → IsAlphaEqual (replaced x ty by s) (replaced x ty also t) }
 {}
 
 /// Type instances of alpha-equal terms are alpha-equal.

@@ -17,10 +17,8 @@ pub fn assume_by_example()
 /// `weaken p i`: from `H |- q`, `H` and `p |- q`; a hypothesis that is there up to alpha equality isn't added again.
 pub fn weaken_by_example()
     ensures gives { derive (by_assume p ∷ by_weaken q 1 ∷ []) (p ∷ q ∷ []) p ≡ true }
-    ensures there_already {
-        let all_x = for_all bool (lambda "x" bool (bound "x")) in
-        derive (by_assume falsity ∷ by_weaken all_x 1 ∷ []) (falsity ∷ []) falsity ≡ true
-    }
+    ensures there_already { let all_x = for_all bool (lambda "x" bool (bound "x")) in
+        derive (by_assume falsity ∷ by_weaken all_x 1 ∷ []) (falsity ∷ []) falsity ≡ true }
     ensures missing_line { refused_line (by_weaken p 1 ∷ []) ≡ Some (1, no_step missing_line) }
     ensures not_bool { refused_line (by_assume p ∷ by_weaken f 1 ∷ []) ≡ Some (2, no_step not_bool) }
     ensures line_before_type { refused_line (by_weaken f 0 ∷ []) ≡ Some (1, no_step missing_line) }
@@ -33,9 +31,7 @@ pub fn refl_by_example()
 
 /// `sym i`: from `H |- s = t`, `H |- t = s`.
 pub fn sym_by_example()
-    ensures gives {
-        derive (by_beta (app f_of p) ∷ by_sym 1 ∷ []) [] (equation bool (app f p) (app f_of p)) ≡ true
-    }
+    ensures gives { derive (by_beta (app f_of p) ∷ by_sym 1 ∷ []) [] (equation bool (app f p) (app f_of p)) ≡ true }
     ensures missing_line { refused_line (by_sym 0 ∷ []) ≡ Some (1, no_step missing_line) }
     ensures own_line { refused_line (by_sym 1 ∷ []) ≡ Some (1, no_step missing_line) }
     ensures not_equation { refused_line (by_assume p ∷ by_sym 1 ∷ []) ≡ Some (2, no_step not_equation) }
@@ -43,13 +39,9 @@ pub fn sym_by_example()
 
 /// `trans i j`: from `H |- r = s` and `K |- s = t`, `H` and `K |- r = t`; the middle terms are compared up to alpha equality.
 pub fn trans_by_example()
-    ensures gives {
-        derive (by_eta f_of ∷ by_thm (codes "ff") ∷ by_trans 1 2 ∷ []) [] (equation (fun bool bool) f_of f) ≡ true
-    }
-    ensures up_to_alpha {
-        let also = lambda "z" bool (app f (bound "z")) in
-        derive (by_refl f_of ∷ by_refl also ∷ by_trans 1 2 ∷ []) [] (equation (fun bool bool) f_of also) ≡ true
-    }
+    ensures gives { derive (by_eta f_of ∷ by_thm (codes "ff") ∷ by_trans 1 2 ∷ []) [] (equation (fun bool bool) f_of f) ≡ true }
+    ensures up_to_alpha { let also = lambda "z" bool (app f (bound "z")) in
+        derive (by_refl f_of ∷ by_refl also ∷ by_trans 1 2 ∷ []) [] (equation (fun bool bool) f_of also) ≡ true }
     ensures missing_first { refused_line (by_assume p ∷ by_trans 2 1 ∷ []) ≡ Some (2, no_step missing_line) }
     ensures missing_second { refused_line (by_assume p ∷ by_trans 1 2 ∷ []) ≡ Some (2, no_step missing_line) }
     ensures not_equation_first { refused_line (by_assume p ∷ by_refl p ∷ by_trans 1 2 ∷ []) ≡ Some (3, no_step not_equation) }
@@ -59,9 +51,7 @@ pub fn trans_by_example()
 
 /// `cong i j`: from `H |- f = g` and `K |- a = b`, `H` and `K |- f a = g b`.
 pub fn cong_by_example()
-    ensures gives {
-        derive (by_eta f_of ∷ by_refl p ∷ by_cong 1 2 ∷ []) [] (equation bool (app f_of p) (app f p)) ≡ true
-    }
+    ensures gives { derive (by_eta f_of ∷ by_refl p ∷ by_cong 1 2 ∷ []) [] (equation bool (app f_of p) (app f p)) ≡ true }
     ensures missing_first { refused_line (by_refl p ∷ by_cong 2 1 ∷ []) ≡ Some (2, no_step missing_line) }
     ensures missing_second { refused_line (by_refl f ∷ by_cong 1 2 ∷ []) ≡ Some (2, no_step missing_line) }
     ensures not_equation_first { refused_line (by_assume p ∷ by_refl p ∷ by_cong 1 2 ∷ []) ≡ Some (3, no_step not_equation) }
@@ -71,27 +61,19 @@ pub fn cong_by_example()
 
 /// `abs x T i`: from `H |- s = t`, `H |- (\x. s) = (\x. t)`. A variable of the same name and another type bars nothing.
 pub fn abs_by_example()
-    ensures gives {
-        derive (by_refl (app f x) ∷ by_abs (codes "x") bool 1 ∷ []) [] (equation (fun bool bool) f_of f_of) ≡ true
-    }
-    ensures other_type {
-        let k = lambda "z" (tyvar "a") (app f x) in
-        derive (by_refl (app f x) ∷ by_weaken x 1 ∷ by_abs (codes "x") (tyvar "a") 2 ∷ []) (x ∷ []) (equation (fun (tyvar "a") bool) k k) ≡ true
-    }
+    ensures gives { derive (by_refl (app f x) ∷ by_abs (codes "x") bool 1 ∷ []) [] (equation (fun bool bool) f_of f_of) ≡ true }
+    ensures other_type { let k = lambda "z" (tyvar "a") (app f x) in
+        derive (by_refl (app f x) ∷ by_weaken x 1 ∷ by_abs (codes "x") (tyvar "a") 2 ∷ []) (x ∷ []) (equation (fun (tyvar "a") bool) k k) ≡ true }
     ensures missing_line { refused_line (by_abs (codes "x") bool 1 ∷ []) ≡ Some (1, no_step missing_line) }
     ensures not_equation { refused_line (by_assume x ∷ by_abs (codes "x") bool 1 ∷ []) ≡ Some (2, no_step not_equation) }
-    ensures variable_in_hypothesis {
-        refused_line (by_refl x ∷ by_weaken x 1 ∷ by_abs (codes "x") bool 2 ∷ []) ≡ Some (3, no_step variable_in_hypothesis)
-    }
+    ensures variable_in_hypothesis { refused_line (by_refl x ∷ by_weaken x 1 ∷ by_abs (codes "x") bool 2 ∷ []) ≡ Some (3, no_step variable_in_hypothesis) }
 {}
 
 /// `beta t`: `|- t = b`, where t is an abstraction applied to a, and b its body opened by a.
 pub fn beta_by_example()
     ensures gives { derive (by_beta (app f_of p) ∷ []) [] (equation bool (app f_of p) (app f p)) ≡ true }
-    ensures inner_binder_stays {
-        let inner = lambda "y" bool (bound "y") in
-        derive (by_beta (app (lambda "y" bool inner) p) ∷ []) [] (equation (fun bool bool) (app (lambda "y" bool inner) p) inner) ≡ true
-    }
+    ensures inner_binder_stays { let inner = lambda "y" bool (bound "y") in
+        derive (by_beta (app (lambda "y" bool inner) p) ∷ []) [] (equation (fun bool bool) (app (lambda "y" bool inner) p) inner) ≡ true }
     ensures not_redex { refused_line (by_beta (app f p) ∷ []) ≡ Some (1, no_step not_redex) }
 {}
 
@@ -99,16 +81,12 @@ pub fn beta_by_example()
 pub fn eta_by_example()
     ensures gives { derive (by_eta f_of ∷ []) [] (equation (fun bool bool) f_of f) ≡ true }
     ensures not_redex { refused_line (by_eta f ∷ []) ≡ Some (1, no_step not_redex) }
-    ensures name_in_function {
-        refused_line (by_eta (lambda "y" bool (app (lambda "z" bool (bound "y")) (bound "y"))) ∷ []) ≡ Some (1, no_step not_redex)
-    }
+    ensures name_in_function { refused_line (by_eta (lambda "y" bool (app (lambda "z" bool (bound "y")) (bound "y"))) ∷ []) ≡ Some (1, no_step not_redex) }
 {}
 
 /// `eqmp i j`: from `H |- p = q` and `K |- p`, `H` and `K |- q`. Line j need be no equation.
 pub fn eqmp_by_example()
-    ensures gives {
-        derive (by_thm (codes "pq") ∷ by_thm (codes "qp") ∷ by_iff 1 2 ∷ by_assume p ∷ by_eqmp 3 4 ∷ []) (p ∷ []) q ≡ true
-    }
+    ensures gives { derive (by_thm (codes "pq") ∷ by_thm (codes "qp") ∷ by_iff 1 2 ∷ by_assume p ∷ by_eqmp 3 4 ∷ []) (p ∷ []) q ≡ true }
     ensures missing_first { refused_line (by_assume p ∷ by_eqmp 2 1 ∷ []) ≡ Some (2, no_step missing_line) }
     ensures missing_second { refused_line (by_refl p ∷ by_eqmp 1 2 ∷ []) ≡ Some (2, no_step missing_line) }
     ensures not_equation { refused_line (by_assume p ∷ by_eqmp 1 1 ∷ []) ≡ Some (2, no_step not_equation) }
@@ -135,9 +113,7 @@ pub fn mp_by_example()
 
 /// `allI x T i`: from `H |- p`, `H |- all x. p`. A hypothesis with the free variable bars it, and one of another type doesn't.
 pub fn allI_by_example()
-    ensures gives {
-        derive (by_refl x ∷ by_allI (codes "x") bool 1 ∷ []) [] (for_all bool (lambda "y" bool (equation bool (bound "y") (bound "y")))) ≡ true
-    }
+    ensures gives { derive (by_refl x ∷ by_allI (codes "x") bool 1 ∷ []) [] (for_all bool (lambda "y" bool (equation bool (bound "y") (bound "y")))) ≡ true }
     ensures other_type { derive (by_assume x ∷ by_allI (codes "x") (tyvar "a") 1 ∷ []) (x ∷ []) (for_all (tyvar "a") (lambda "y" (tyvar "a") x)) ≡ true }
     ensures missing_line { refused_line (by_allI (codes "x") bool 1 ∷ []) ≡ Some (1, no_step missing_line) }
     ensures variable_in_hypothesis { refused_line (by_assume x ∷ by_allI (codes "x") bool 1 ∷ []) ≡ Some (2, no_step variable_in_hypothesis) }
@@ -160,10 +136,8 @@ pub fn iff_by_example()
     ensures not_implication_first { refused_line (by_assume p ∷ by_thm (codes "qp") ∷ by_iff 1 2 ∷ []) ≡ Some (3, no_step not_implication) }
     ensures not_implication_second { refused_line (by_thm (codes "pq") ∷ by_assume p ∷ by_iff 1 2 ∷ []) ≡ Some (3, no_step not_implication) }
     ensures middle_differs { refused_line (by_thm (codes "pq") ∷ by_thm (codes "pq") ∷ by_iff 1 2 ∷ []) ≡ Some (3, no_step middle_differs) }
-    ensures one_pair_differs {
-        let pp = implies p p in
-        refused_line (by_assume pp ∷ by_thm (codes "qp") ∷ by_iff 1 2 ∷ []) ≡ Some (3, no_step middle_differs)
-    }
+    ensures one_pair_differs { let pp = implies p p in
+        refused_line (by_assume pp ∷ by_thm (codes "qp") ∷ by_iff 1 2 ∷ []) ≡ Some (3, no_step middle_differs) }
 {}
 
 /// `inst x T t i`: from `H |- p`, the free variable replaced by t throughout; hypotheses that become alpha-equal are one.
@@ -176,33 +150,25 @@ pub fn inst_by_example()
 
 /// `tinst 'a T i`: from `H |- p`, the type variable replaced throughout, in the hypotheses too, and nothing is captured.
 pub fn tinst_by_example()
-    ensures gives {
-        let at = lambda "x" (tyvar "a") (free "x" bool) in
+    ensures gives { let at = lambda "x" (tyvar "a") (free "x" bool) in
         let to = lambda "x" bool (free "x" bool) in
-        derive (by_refl at ∷ by_tinst (codes "a") bool 1 ∷ []) [] (equation (fun bool bool) to to) ≡ true
-    }
-    ensures hypotheses_too {
-        let at = equation (tyvar "a") (free "y" (tyvar "a")) (free "y" (tyvar "a")) in
+        derive (by_refl at ∷ by_tinst (codes "a") bool 1 ∷ []) [] (equation (fun bool bool) to to) ≡ true }
+    ensures hypotheses_too { let at = equation (tyvar "a") (free "y" (tyvar "a")) (free "y" (tyvar "a")) in
         let to = equation bool (free "y" bool) (free "y" bool) in
-        derive (by_assume at ∷ by_tinst (codes "a") bool 1 ∷ []) (to ∷ []) to ≡ true
-    }
+        derive (by_assume at ∷ by_tinst (codes "a") bool 1 ∷ []) (to ∷ []) to ≡ true }
     ensures missing_line { refused_line (by_tinst (codes "a") bool 1 ∷ []) ≡ Some (1, no_step missing_line) }
 {}
 
 /// `select p`: `|- all x. p x --> p (eps p)`.
 pub fn select_by_example()
-    ensures gives {
-        derive (by_select f ∷ []) [] (for_all bool (lambda "z" bool (implies (app f (bound "z")) (app f (some_of bool f))))) ≡ true
-    }
+    ensures gives { derive (by_select f ∷ []) [] (for_all bool (lambda "z" bool (implies (app f (bound "z")) (app f (some_of bool f))))) ≡ true }
     ensures type_differs { refused_line (by_select p ∷ []) ≡ Some (1, no_step type_differs) }
 {}
 
 /// `ccontr p`: `|- ((p --> F) --> F) --> p`, where F is `all q. q`.
 pub fn ccontr_by_example()
-    ensures gives {
-        let no = for_all bool (lambda "z" bool (bound "z")) in
-        derive (by_ccontr p ∷ []) [] (implies (implies (implies p no) no) p) ≡ true
-    }
+    ensures gives { let no = for_all bool (lambda "z" bool (bound "z")) in
+        derive (by_ccontr p ∷ []) [] (implies (implies (implies p no) no) p) ≡ true }
     ensures not_bool { refused_line (by_ccontr f ∷ []) ≡ Some (1, no_step not_bool) }
 {}
 

@@ -24,10 +24,8 @@ pub fn validity_is_computed()
 
 /// Each named statement of a valid theory is closed and boolean, those of definitions and typedefs too.
 pub fn statements_are_boolean()
-    ensures {
-        (items : List Item) → IsPlainTheory items → (l : Chars) (p : TermTree)
-            → found l (context_of empty items).statements ≡ Some p → IsStatement (context_of empty items) p
-    }
+    ensures { (items : List Item) → IsPlainTheory items → (l : Chars) (p : TermTree)
+        → found l (context_of empty items).statements ≡ Some p → IsStatement (context_of empty items) p }
 {}
 
 /// The signature of a valid theory has the built-in types and constants, and no declared type has a fault.

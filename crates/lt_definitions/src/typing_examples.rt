@@ -8,32 +8,24 @@ ghost use Rattle.lt_definitions.specs.Samples.{tyvar, type_of_args, nat, free, b
 /// Type variables come in order of first appearance, and a substitution replaces all of them at once.
 pub fn type_variables_and_substitution()
     ensures first_appearance { type_variables (fun (tyvar "b") (fun (tyvar "a") (tyvar "b"))) ≡ codes "b" ∷ codes "a" ∷ [] }
-    ensures at_once {
-        type_instance ((codes "a", tyvar "b") ∷ (codes "b", tyvar "a") ∷ []) (fun (tyvar "a") (tyvar "b")) ≡ fun (tyvar "b") (tyvar "a")
-    }
+    ensures at_once { type_instance ((codes "a", tyvar "b") ∷ (codes "b", tyvar "a") ∷ []) (fun (tyvar "a") (tyvar "b")) ≡ fun (tyvar "b") (tyvar "a") }
     ensures others_stay { type_instance ((codes "a", bool) ∷ []) (fun (tyvar "a") (tyvar "c")) ≡ fun bool (tyvar "c") }
 {}
 
 /// The map of an instance has the pattern's variables in order of first appearance.
 pub fn instance_of_a_pattern()
-    ensures matches {
-        Matches (fun (tyvar "b") (fun (tyvar "a") (tyvar "b"))) ((codes "b", bool) ∷ (codes "a", nat) ∷ []) (fun bool (fun nat bool))
-    }
+    ensures matches { Matches (fun (tyvar "b") (fun (tyvar "a") (tyvar "b"))) ((codes "b", bool) ∷ (codes "a", nat) ∷ []) (fun bool (fun nat bool)) }
 {}
 
 /// A free variable has its own type, a bound name that of its innermost binder, a constant its declared type at its type arguments.
 pub fn types_of_terms()
     ensures free_variable { typed built_in [] (free "x" bool) ≡ Ok bool }
     ensures constant { typed built_in [] (con_at "eq" (bool ∷ [])) ≡ Ok (fun bool (fun bool bool)) }
-    ensures arguments_by_first_appearance {
-        let two : Signature = record built_in { consts = (codes "k", fun (tyvar "b") (tyvar "a")) ∷ [] } in
-        typed two [] (con_at "k" (bool ∷ tyvar "c" ∷ [])) ≡ Ok (fun bool (tyvar "c"))
-    }
+    ensures arguments_by_first_appearance { let two : Signature = record built_in { consts = (codes "k", fun (tyvar "b") (tyvar "a")) ∷ [] } in
+        typed two [] (con_at "k" (bool ∷ tyvar "c" ∷ [])) ≡ Ok (fun bool (tyvar "c")) }
     ensures application { typed built_in [] (app (con "imp") (free "x" bool)) ≡ Ok (fun bool bool) }
     ensures abstraction { typed built_in [] (lambda "x" bool (bound "x")) ≡ Ok (fun bool bool) }
-    ensures innermost_binder {
-        typed built_in [] (lambda "x" bool (lambda "x" (tyvar "a") (bound "x"))) ≡ Ok (fun bool (fun (tyvar "a") (tyvar "a")))
-    }
+    ensures innermost_binder { typed built_in [] (lambda "x" bool (lambda "x" (tyvar "a") (bound "x"))) ≡ Ok (fun bool (fun (tyvar "a") (tyvar "a"))) }
 {}
 
 /// The two faults of a type, each once.
@@ -58,9 +50,7 @@ pub fn faults_of_terms()
     ensures type_args_wanting { typed built_in [] (con "eq") ≡ Err (type_args (codes "eq")) }
     ensures type_args_beyond { typed built_in [] (con_at "imp" (bool ∷ [])) ≡ Err (type_args (codes "imp")) }
     ensures unbound { typed built_in [] (bound "x") ≡ Err (unbound (codes "x")) }
-    ensures mismatch_of_argument {
-        typed built_in [] (app (con "imp") (lambda "x" bool (bound "x"))) ≡ Err (mismatch (fun bool (fun bool bool)) (fun bool bool))
-    }
+    ensures mismatch_of_argument { typed built_in [] (app (con "imp") (lambda "x" bool (bound "x"))) ≡ Err (mismatch (fun bool (fun bool bool)) (fun bool bool)) }
     ensures mismatch_of_no_function { typed built_in [] (app (free "x" bool) (free "y" bool)) ≡ Err (mismatch bool bool) }
 {}
 

@@ -8,9 +8,7 @@ ghost use Rattle.lt_definitions.specs.Booleans.{IsSoundSignature};
 
 /// The two typings agree: the function gives a type exactly where the relation holds of it.
 pub fn typing_is_a_relation()
-    ensures {
-        (sig : Signature) (env : List (Chars × TypeTree)) (t : TermTree) (ty : TypeTree) → (typed sig env t ≡ Ok ty) ↔ HasType sig env t ty
-    }
+    ensures { (sig : Signature) (env : List (Chars × TypeTree)) (t : TermTree) (ty : TypeTree) → (typed sig env t ≡ Ok ty) ↔ HasType sig env t ty }
 {}
 
 /// The type of a term has no fault, where no declared type has one.
@@ -25,34 +23,26 @@ pub fn typed_terms_have_no_loose_names()
 
 /// An abstraction's body opened by a term of the binder's type keeps its type.
 pub fn opening_keeps_types()
-    ensures {
-        (sig : Signature) (x : Chars) (u : TypeTree) (by t : TermTree) (ty : TypeTree)
-            → HasType sig [] by u → HasType sig ((x, u) ∷ []) t ty → HasType sig [] (opened x by t) ty
-    }
+    ensures { (sig : Signature) (x : Chars) (u : TypeTree) (by t : TermTree) (ty : TypeTree)
+        → HasType sig [] by u → HasType sig ((x, u) ∷ []) t ty → HasType sig [] (opened x by t) ty }
 {}
 
 /// A closing is a function from the free variable's type.
 pub fn closing_keeps_types()
-    ensures {
-        (sig : Signature) (x : Chars) (u : TypeTree) (t c : TermTree) (ty : TypeTree)
-            → type_fault sig u ≡ None → HasType sig [] t ty → Closes x u t c → HasType sig [] c (fun u ty)
-    }
+    ensures { (sig : Signature) (x : Chars) (u : TypeTree) (t c : TermTree) (ty : TypeTree)
+        → type_fault sig u ≡ None → HasType sig [] t ty → Closes x u t c → HasType sig [] c (fun u ty) }
 {}
 
 /// A term keeps its type where a free variable is replaced by a term of the variable's type.
 pub fn replacing_keeps_types()
-    ensures {
-        (sig : Signature) (x : Chars) (u : TypeTree) (by t : TermTree) (ty : TypeTree)
-            → HasType sig [] by u → HasType sig [] t ty → HasType sig [] (replaced x u by t) ty
-    }
+    ensures { (sig : Signature) (x : Chars) (u : TypeTree) (by t : TermTree) (ty : TypeTree)
+        → HasType sig [] by u → HasType sig [] t ty → HasType sig [] (replaced x u by t) ty }
 {}
 
 /// A type instance of a term has that instance of its type.
 pub fn instances_keep_types()
-    ensures {
-        (sig : Signature) (m : TypeMap) (t : TermTree) (ty : TypeTree) → types_fault sig (row (map (λ p. p.1) m)) ≡ None
-            → HasType sig [] t ty → HasType sig [] (term_instance m t) (type_instance m ty)
-    }
+    ensures { (sig : Signature) (m : TypeMap) (t : TermTree) (ty : TypeTree) → types_fault sig (row (map (λ p. p.1) m)) ≡ None
+        → HasType sig [] t ty → HasType sig [] (term_instance m t) (type_instance m ty) }
 {}
 
 /// A type is an instance of a pattern by one map at most.
