@@ -32,6 +32,7 @@ pub fn axioms()
     ensures duplicate { refusal over_numbers (axiom_item (codes "Pz") (all_equal nat)) ≡ Some (duplicate (codes "Pz")) }
     ensures open_term { refusal over_numbers (axiom_item (codes "a") (free "x" bool)) ≡ Some open_term }
     ensures duplicate_before_open { refusal over_numbers (axiom_item (codes "Pz") (free "x" bool)) ≡ Some (duplicate (codes "Pz")) }
+    ensures type_before_duplicate { refusal over_numbers (axiom_item (codes "Pz") (con "P")) ≡ Some (not_boolean (fun nat bool)) }
 {}
 
 /// `def N : T := t`: each refusal once.
@@ -44,6 +45,9 @@ pub fn definitions()
     ensures mismatch { refusal over_numbers (def_item (codes "n") nat (con "P")) ≡ Some (at_fault (mismatch nat (fun nat bool))) }
     ensures open_term { refusal over_numbers (def_item (codes "n") nat (free "x" nat)) ≡ Some open_term }
     ensures mismatch_before_open { refusal over_numbers (def_item (codes "n") nat (free "x" bool)) ≡ Some (at_fault (mismatch nat bool)) }
+    ensures constant_before_label { refusal (with_item over_numbers (axiom_item (codes "z_def") (all_equal nat))) (def_item (codes "z") nat (con "z")) ≡ Some (duplicate (codes "z")) }
+    ensures duplicate_before_mismatch { refusal over_numbers (def_item (codes "z") bool (con "z")) ≡ Some (duplicate (codes "z")) }
+    ensures open_before_variables { refusal empty (def_item (codes "k") bool (app (lambda "y" (tyvar "a") (free "x" bool)) (free "z" (tyvar "a")))) ≡ Some open_term }
 {}
 
 /// A type variable of the body that the type lacks: the first one is told.
@@ -71,9 +75,16 @@ pub fn typedefs()
     ensures duplicate_rep { refusal over_numbers (typedef_item (codes "t") [] (con "P") (codes "Pz") (codes "P") (codes "z")) ≡ Some (duplicate (codes "z")) }
     ensures duplicate_abs { refusal over_numbers (typedef_item (codes "t") [] (con "P") (codes "Pz") (codes "z") (codes "r")) ≡ Some (duplicate (codes "z")) }
     ensures abs_as_rep { refusal over_numbers (typedef_item (codes "t") [] (con "P") (codes "Pz") (codes "f") (codes "f")) ≡ Some (duplicate (codes "f")) }
-    ensures duplicate_label { refusal (with_item over_numbers (axiom_item (codes "t_abs_inverse") (all_equal nat))) (typedef_t [] (con "P")) ≡ Some (duplicate (codes "t_abs_inverse")) }
+    ensures duplicate_third_label { refusal (with_item over_numbers (axiom_item (codes "t_abs_inverse") (all_equal nat))) (typedef_t [] (con "P")) ≡ Some (duplicate (codes "t_abs_inverse")) }
     ensures open_term { refusal over_numbers (typedef_t [] (free "x" (fun nat bool))) ≡ Some open_term }
     ensures loose_type_variable { refusal over_numbers (typedef_t (codes "b" ∷ []) (lambda "y" (tyvar "a") (equation (tyvar "a") (bound "y") (bound "y")))) ≡ Some (loose_type_var (codes "a")) }
+    ensures fault_before_label { refusal over_numbers (typedef_item (codes "t") [] (con "R") (codes "Qz") (codes "a") (codes "r")) ≡ Some (at_fault (unknown_const (codes "R"))) }
+    ensures first_label_first { refusal (with_item (with_item over_numbers (axiom_item (codes "t_rep_inverse") (all_equal nat))) (axiom_item (codes "t_rep") (all_equal nat))) (typedef_t [] (con "P"))
+        ≡ Some (duplicate (codes "t_rep")) }
+    ensures second_label_second { refusal (with_item (with_item over_numbers (axiom_item (codes "t_abs_inverse") (all_equal nat))) (axiom_item (codes "t_rep_inverse") (all_equal nat))) (typedef_t [] (con "P"))
+        ≡ Some (duplicate (codes "t_rep_inverse")) }
+    ensures duplicate_before_open { refusal over_numbers (typedef_item (codes "t") [] (free "x" (fun nat bool)) (codes "Pz") (codes "z") (codes "r")) ≡ Some (duplicate (codes "z")) }
+    ensures open_before_variables { refusal over_numbers (typedef_t [] (free "x" (fun (tyvar "a") bool))) ≡ Some open_term }
 {}
 
 /// The statement has to apply the predicate, up to alpha equality; the parameters are distinct, and the predicate is one.

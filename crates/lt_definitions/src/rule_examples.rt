@@ -32,9 +32,10 @@ pub fn refl_by_example()
 /// `sym i`: from `H |- s = t`, `H |- t = s`.
 pub fn sym_by_example()
     ensures gives { derive (by_beta (app f_of p) ∷ by_sym 1 ∷ []) [] (equation bool (app f p) (app f_of p)) ≡ true }
-    ensures missing_line { refused_line (by_sym 0 ∷ []) ≡ Some (1, no_step missing_line) }
+    ensures missing_line { refused_line (by_refl p ∷ by_sym 0 ∷ []) ≡ Some (2, no_step missing_line) }
     ensures own_line { refused_line (by_sym 1 ∷ []) ≡ Some (1, no_step missing_line) }
     ensures not_equation { refused_line (by_assume p ∷ by_sym 1 ∷ []) ≡ Some (2, no_step not_equation) }
+    ensures hypotheses_stay { derive (by_assume (equation bool p q) ∷ by_sym 1 ∷ []) (equation bool p q ∷ []) (equation bool q p) ≡ true }
 {}
 
 /// `trans i j`: from `H |- r = s` and `K |- s = t`, `H` and `K |- r = t`; the middle terms are compared up to alpha equality.
@@ -47,6 +48,9 @@ pub fn trans_by_example()
     ensures not_equation_first { refused_line (by_assume p ∷ by_refl p ∷ by_trans 1 2 ∷ []) ≡ Some (3, no_step not_equation) }
     ensures not_equation_second { refused_line (by_refl p ∷ by_assume p ∷ by_trans 1 2 ∷ []) ≡ Some (3, no_step not_equation) }
     ensures middle_differs { refused_line (by_refl p ∷ by_refl q ∷ by_trans 1 2 ∷ []) ≡ Some (3, no_step middle_differs) }
+    ensures hypotheses_in_order { let pq = equation bool p q in
+        let qp = equation bool q p in
+        derive (by_assume pq ∷ by_assume qp ∷ by_trans 1 2 ∷ []) (pq ∷ qp ∷ []) (equation bool p p) ≡ true }
 {}
 
 /// `cong i j`: from `H |- f = g` and `K |- a = b`, `H` and `K |- f a = g b`.
@@ -57,6 +61,9 @@ pub fn cong_by_example()
     ensures not_equation_first { refused_line (by_assume p ∷ by_refl p ∷ by_cong 1 2 ∷ []) ≡ Some (3, no_step not_equation) }
     ensures not_equation_second { refused_line (by_refl f ∷ by_assume p ∷ by_cong 1 2 ∷ []) ≡ Some (3, no_step not_equation) }
     ensures type_differs { refused_line (by_refl f ∷ by_refl f ∷ by_cong 1 2 ∷ []) ≡ Some (3, no_step type_differs) }
+    ensures hypotheses_in_order { let ff = equation (fun bool bool) f f in
+        let pq = equation bool p q in
+        derive (by_assume ff ∷ by_assume pq ∷ by_cong 1 2 ∷ []) (ff ∷ pq ∷ []) (equation bool (app f p) (app f q)) ≡ true }
 {}
 
 /// `abs x T i`: from `H |- s = t`, `H |- (\x. s) = (\x. t)`. A variable of the same name and another type bars nothing.
@@ -91,6 +98,8 @@ pub fn eqmp_by_example()
     ensures missing_second { refused_line (by_refl p ∷ by_eqmp 1 2 ∷ []) ≡ Some (2, no_step missing_line) }
     ensures not_equation { refused_line (by_assume p ∷ by_eqmp 1 1 ∷ []) ≡ Some (2, no_step not_equation) }
     ensures middle_differs { refused_line (by_refl p ∷ by_assume q ∷ by_eqmp 1 2 ∷ []) ≡ Some (3, no_step middle_differs) }
+    ensures hypotheses_in_order { let pq = equation bool p q in
+        derive (by_assume pq ∷ by_assume p ∷ by_eqmp 1 2 ∷ []) (pq ∷ p ∷ []) q ≡ true }
 {}
 
 /// `impI p i`: from `H |- q`, `H` without `p |- p --> q`; each hypothesis that is alpha-equal to p goes, and none need be there.
@@ -100,6 +109,7 @@ pub fn impI_by_example()
     ensures not_there { derive (by_assume p ∷ by_impI q 1 ∷ []) (p ∷ []) (implies q p) ≡ true }
     ensures missing_line { refused_line (by_impI p 1 ∷ []) ≡ Some (1, no_step missing_line) }
     ensures not_bool { refused_line (by_assume p ∷ by_impI f 1 ∷ []) ≡ Some (2, no_step not_bool) }
+    ensures line_before_type { refused_line (by_impI f 1 ∷ []) ≡ Some (1, no_step missing_line) }
 {}
 
 /// `mp i j`: from `H |- p --> q` and `K |- p`, `H` and `K |- q`.
@@ -109,6 +119,7 @@ pub fn mp_by_example()
     ensures missing_second { refused_line (by_thm (codes "pq") ∷ by_mp 1 2 ∷ []) ≡ Some (2, no_step missing_line) }
     ensures not_implication { refused_line (by_assume p ∷ by_mp 1 1 ∷ []) ≡ Some (2, no_step not_implication) }
     ensures middle_differs { refused_line (by_thm (codes "pq") ∷ by_assume q ∷ by_mp 1 2 ∷ []) ≡ Some (3, no_step middle_differs) }
+    ensures hypotheses_in_order { derive (by_assume (implies q p) ∷ by_assume q ∷ by_mp 1 2 ∷ []) (implies q p ∷ q ∷ []) p ≡ true }
 {}
 
 /// `allI x T i`: from `H |- p`, `H |- all x. p`. A hypothesis with the free variable bars it, and one of another type doesn't.
@@ -126,6 +137,8 @@ pub fn allE_by_example()
     ensures missing_line { refused_line (by_allE p 1 ∷ []) ≡ Some (1, no_step missing_line) }
     ensures not_forall { refused_line (by_assume p ∷ by_allE p 1 ∷ []) ≡ Some (2, no_step not_forall) }
     ensures type_differs { refused_line (by_thm (codes "fs") ∷ by_allE f 1 ∷ []) ≡ Some (2, no_step type_differs) }
+    ensures hypotheses_stay { derive (by_assume falsity ∷ by_allE p 1 ∷ []) (falsity ∷ []) p ≡ true }
+    ensures form_before_type { refused_line (by_assume p ∷ by_allE f 1 ∷ []) ≡ Some (2, no_step not_forall) }
 {}
 
 /// `iff i j`: from `H |- p --> q` and `K |- q --> p`, `H` and `K |- p = q`.
@@ -136,8 +149,10 @@ pub fn iff_by_example()
     ensures not_implication_first { refused_line (by_assume p ∷ by_thm (codes "qp") ∷ by_iff 1 2 ∷ []) ≡ Some (3, no_step not_implication) }
     ensures not_implication_second { refused_line (by_thm (codes "pq") ∷ by_assume p ∷ by_iff 1 2 ∷ []) ≡ Some (3, no_step not_implication) }
     ensures middle_differs { refused_line (by_thm (codes "pq") ∷ by_thm (codes "pq") ∷ by_iff 1 2 ∷ []) ≡ Some (3, no_step middle_differs) }
-    ensures one_pair_differs { let pp = implies p p in
+    ensures second_pair_differs { let pp = implies p p in
         refused_line (by_assume pp ∷ by_thm (codes "qp") ∷ by_iff 1 2 ∷ []) ≡ Some (3, no_step middle_differs) }
+    ensures hypotheses_in_order { derive (by_assume (implies p q) ∷ by_assume (implies q p) ∷ by_iff 1 2 ∷ []) (implies p q ∷ implies q p ∷ []) (equation bool p q) ≡ true }
+    ensures first_pair_differs { refused_line (by_thm (codes "pq") ∷ by_assume (implies q q) ∷ by_iff 1 2 ∷ []) ≡ Some (3, no_step middle_differs) }
 {}
 
 /// `inst x T t i`: from `H |- p`, the free variable replaced by t throughout; hypotheses that become alpha-equal are one.
@@ -146,6 +161,7 @@ pub fn inst_by_example()
     ensures one_hypothesis { derive (by_assume x ∷ by_weaken q 1 ∷ by_inst (codes "x") bool q 2 ∷ []) (q ∷ []) q ≡ true }
     ensures missing_line { refused_line (by_inst (codes "x") bool q 1 ∷ []) ≡ Some (1, no_step missing_line) }
     ensures type_differs { refused_line (by_assume x ∷ by_inst (codes "x") bool f 1 ∷ []) ≡ Some (2, no_step type_differs) }
+    ensures line_before_type { refused_line (by_inst (codes "x") bool f 1 ∷ []) ≡ Some (1, no_step missing_line) }
 {}
 
 /// `tinst 'a T i`: from `H |- p`, the type variable replaced throughout, in the hypotheses too, and nothing is captured.
@@ -157,6 +173,9 @@ pub fn tinst_by_example()
         let to = equation bool (free "y" bool) (free "y" bool) in
         derive (by_assume at ∷ by_tinst (codes "a") bool 1 ∷ []) (to ∷ []) to ≡ true }
     ensures missing_line { refused_line (by_tinst (codes "a") bool 1 ∷ []) ≡ Some (1, no_step missing_line) }
+    ensures one_hypothesis { let at = equation (tyvar "a") (free "y" (tyvar "a")) (free "y" (tyvar "a")) in
+        let to = equation bool (free "y" bool) (free "y" bool) in
+        derive (by_assume at ∷ by_weaken to 1 ∷ by_tinst (codes "a") bool 2 ∷ []) (to ∷ []) to ≡ true }
 {}
 
 /// `select p`: `|- all x. p x --> p (eps p)`.

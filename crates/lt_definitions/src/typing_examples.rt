@@ -1,7 +1,7 @@
 //! Examples of types, and of the types and first faults of terms. Each clause is one of them.
-ghost use Rattle.std.specs.Prelude.{◌≡◌, [], ◌∷◌, ◌++◌, Some, None, Ok, Err, codes};
+ghost use Rattle.std.specs.Prelude.{◌≡◌, true, false, [], ◌∷◌, ◌++◌, Some, None, Ok, Err, codes};
 ghost use Rattle.lt_definitions.specs.Types.{bool, fun, type_variables, type_instance, Matches};
-ghost use Rattle.lt_definitions.specs.Terms.{term_nodes};
+ghost use Rattle.lt_definitions.specs.Terms.{term_variables, is_closed, term_nodes};
 ghost use Rattle.lt_definitions.specs.Typing.{Signature, built_in, type_fault, typed, unknown_type, arity, unknown_const, type_args, unbound, mismatch};
 ghost use Rattle.lt_definitions.specs.Samples.{tyvar, type_of_args, nat, free, bound, con, con_at, app, lambda};
 
@@ -20,7 +20,10 @@ pub fn instance_of_a_pattern()
 /// A free variable has its own type, a bound name that of its innermost binder, a constant its declared type at its type arguments.
 pub fn types_of_terms()
     ensures free_variable { typed built_in [] (free "x" bool) ≡ Ok bool }
-    ensures constant { typed built_in [] (con_at "eq" (bool ∷ [])) ≡ Ok (fun bool (fun bool bool)) }
+    ensures equality { typed built_in [] (con_at "eq" (tyvar "b" ∷ [])) ≡ Ok (fun (tyvar "b") (fun (tyvar "b") bool)) }
+    ensures implication { typed built_in [] (con "imp") ≡ Ok (fun bool (fun bool bool)) }
+    ensures quantifier { typed built_in [] (con_at "all" (tyvar "b" ∷ [])) ≡ Ok (fun (fun (tyvar "b") bool) bool) }
+    ensures choice { typed built_in [] (con_at "eps" (tyvar "b" ∷ [])) ≡ Ok (fun (fun (tyvar "b") bool) (tyvar "b")) }
     ensures arguments_by_first_appearance { let two : Signature = record built_in { consts = (codes "k", fun (tyvar "b") (tyvar "a")) ∷ [] } in
         typed two [] (con_at "k" (bool ∷ tyvar "c" ∷ [])) ≡ Ok (fun bool (tyvar "c")) }
     ensures application { typed built_in [] (app (con "imp") (free "x" bool)) ≡ Ok (fun bool bool) }
@@ -62,6 +65,21 @@ pub fn order_of_term_faults()
     ensures constant_before_its_types { typed built_in [] (con_at "k" (nat ∷ [])) ≡ Err (unknown_const (codes "k")) }
     ensures count_before_types { typed built_in [] (con_at "eq" (nat ∷ bool ∷ [])) ≡ Err (type_args (codes "eq")) }
     ensures types_last { typed built_in [] (con_at "eq" (nat ∷ [])) ≡ Err (unknown_type (codes "nat")) }
+{}
+
+/// The type variables of a term come in the order of its text: a function before its argument, a binder's type before the body.
+pub fn type_variables_of_terms()
+    ensures function_first { term_variables (app (con_at "k" (tyvar "b" ∷ [])) (con_at "k" (tyvar "a" ∷ tyvar "b" ∷ []))) ≡ codes "b" ∷ codes "a" ∷ [] }
+    ensures binder_first { term_variables (lambda "x" (tyvar "b") (free "y" (tyvar "a"))) ≡ codes "b" ∷ codes "a" ∷ [] }
+{}
+
+/// A term is closed where it has no free variable; bound names and type variables don't count.
+pub fn closed_terms()
+    ensures free_variable { is_closed (free "x" bool) ≡ false }
+    ensures in_function { is_closed (app (free "x" bool) (con "k")) ≡ false }
+    ensures in_argument { is_closed (app (con "k") (free "x" bool)) ≡ false }
+    ensures in_body { is_closed (lambda "x" bool (free "x" bool)) ≡ false }
+    ensures closed { is_closed (lambda "x" (tyvar "a") (app (con "k") (bound "x"))) ≡ true }
 {}
 
 /// The nodes of a term are its own and those of the types in it.
