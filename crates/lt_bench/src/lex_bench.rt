@@ -32,10 +32,12 @@ fn make_text(alloc: Global, megabytes: usize) -> Result<Vec<u8>, AllocError> {
 fn count_tokens(text: &[u8]) -> (u64, Lexed) {
     let mut lexer = Lexer::new(text);
     let mut count: u64 = 0;
-    'tokens: while let Lexed::Token(_) = lexer.next_token() {
-        count = count.saturating_add(1);
+    'tokens: loop {
+        match lexer.next_token() {
+            Lexed::Token(_) => count = count.wrapping_add(1),
+            ending => return (count, ending),
+        }
     }
-    (count, lexer.next_token())
 }
 
 /// The tokens of one block of lines.

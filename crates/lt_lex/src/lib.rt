@@ -48,6 +48,7 @@ impl<'a> Lexer<'a> {
     }
 
     /// The next token, or why there is none; then the lexer stays where it is and answers the same again. It takes time in the bytes that it passes over.
+    #[inline(always)]
     pub fn next_token(&mut self) -> Lexed
         ensures token { result ≡ lexed self.old }
         ensures left { self.new ≡ after self.old }

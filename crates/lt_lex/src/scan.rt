@@ -107,24 +107,18 @@ fn past_name(text: &str, mut at: usize) -> usize
     requires { IsCharBoundary text.now at }
     ensures { IsBehind text.now at (behind_run is_xid_continue) result }
 {
-    'name: while let Some((c, behind)) = char_at(text, at) {
-        if (c as u32) >= 128 {
+    let bytes = text.as_bytes();
+    'name: while at < bytes.len() {
+        let byte = bytes[at];
+        if byte >= 128 {
             return past_wide_name(text, at);
         }
-        if !ascii_goes_on(c) {
+        if !GOES_ON[byte as usize] {
             return at;
         }
-        at = behind;
+        at += 1;
     }
     at
-}
-
-/// Whether an ASCII character goes on a name.
-fn ascii_goes_on(c: char) -> bool
-    requires { c < 128 }
-    ensures { result ≡ is_xid_continue c }
-{
-    GOES_ON[c as usize]
 }
 
 /// The place behind the characters that go on a name, where some are longer than one byte.
