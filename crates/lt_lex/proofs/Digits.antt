@@ -23,7 +23,7 @@ none_by true true c m cs e = small (nat_lt m (2 ^ 32)) refl e
     small true h k = absurd (cc k)
     small false h k =
         ap (λ (y : Bool). let o : Option ℕ = if y then Some (more_digits m cs) else None in o)
-          (le-ltb (more_digits m cs) (2 ^ 32) (omega (arith, ltb-false m (2 ^ 32) h, grows m cs)))
+        (le-ltb (more_digits m cs) (2 ^ 32) (omega (arith, ltb-false m (2 ^ 32) h, grows m cs)))
 
 pub none_told : (n c : ℕ) (cs : List ℕ) → with_digit n c ≡ None → with_digits n (c ∷ cs) ≡ None
 none_told n c cs e = none_by (is_ascii_digit c) (list_all is_ascii_digit cs) c (n * 10 + (c - 48)) cs e
@@ -34,7 +34,7 @@ value_or d (Some v) = v
 
 some_by : (d y l : Bool) (k m : ℕ) (cs : List ℕ) → (let o : Option ℕ = if d && y then Some m else None in o) ≡ Some k
     → (let o : Option ℕ = if (d && l) && nat_lt (more_digits m cs) (2 ^ 32) then Some (more_digits m cs) else None in o)
-      ≡ (if l && nat_lt (more_digits k cs) (2 ^ 32) then Some (more_digits k cs) else None)
+    ≡ (if l && nat_lt (more_digits k cs) (2 ^ 32) then Some (more_digits k cs) else None)
 some_by false y l k m cs e = absurd (cc e)
 some_by true false l k m cs e = absurd (cc e)
 some_by true true l k m cs e =

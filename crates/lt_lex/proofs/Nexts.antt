@@ -104,10 +104,10 @@ between_told : (text : List ℕ) (from to : ℕ) (word : List ℕ) → IsUtf8 te
     → take (to - from) (drop from text) ≡ encode_utf8_all word
 between_told text from to word u b d h e =
     let left : drop from text ≡ encode_utf8_all word ++ drop to text =
-        sym (encodes-chars (drop from text) (IsUtf8-drop text from u b)) ∙ ap encode_utf8_all e ∙ encodes-append word (ahead_at text to)
-        ∙ ap (λ (x : List ℕ). encode_utf8_all word ++ x) (encodes-chars (drop to text) (IsUtf8-drop text to u d)) in
+    sym (encodes-chars (drop from text) (IsUtf8-drop text from u b)) ∙ ap encode_utf8_all e ∙ encodes-append word (ahead_at text to)
+    ∙ ap (λ (x : List ℕ). encode_utf8_all word ++ x) (encodes-chars (drop to text) (IsUtf8-drop text to u d)) in
     let long : length (encode_utf8_all word) ≡ to - from =
-        omega (arith, ap length left, length-append (encode_utf8_all word) (drop to text), length-drop from text, length-drop to text, b.0, d.0, h) in
+    omega (arith, ap length left, length-append (encode_utf8_all word) (drop to text), length-drop from text, length-drop to text, b.0, d.0, h) in
     ap (take (to - from)) left ∙ ap (λ (n : ℕ). take n (encode_utf8_all word ++ drop to text)) (sym long) ∙ take-append_seam (encode_utf8_all word) (drop to text)
 
 pub read_told : (source text : List ℕ) (at from c behind : ℕ) → IsOpened source text at → Begins text at from c behind → (kind : TokenKind) (to : ℕ) → IsFound text behind (token_from c (ahead_at text behind)) (Some (kind, to))
@@ -123,12 +123,12 @@ read_told source text at from c behind opened h kind to f s s' p q =
         let order : from ≤ to = omega (arith, h.longer, (found.2).later) in
         let sound : IsSound (c ∷ ahead_at text behind) (Some found.0) = subst (IsSound (c ∷ ahead_at text behind)) found.1 (token_sound (c ∷ ahead_at text behind)) in
         let all : ahead_at text from ≡ (found.0).spelling ++ ahead_at text to =
-            h.first ∙ sound.0 ∙ ap (λ (x : List ℕ). (found.0).spelling ++ x) (sym (found.2).chars) in
+        h.first ∙ sound.0 ∙ ap (λ (x : List ℕ). (found.0).spelling ++ x) (sym (found.2).chars) in
         let bytes = bytes_told source text from to opened.front order ((found.2).place).0 in
         let between = between_told text from to (found.0).spelling utf8 h.place (found.2).place order all in
         let is_utf8 : IsUtf8 (take (to - from) (drop from source)) = subst IsUtf8 (sym bytes) (IsUtf8-between text from to utf8 order h.place (found.2).place) in
         let told : spelling (left_at source text at) ≡ (found.0).spelling =
-            ap (λ (cs : List ℕ). spelling_by (token_at cs)) (sym h.gap ∙ h.first) ∙ ap spelling_by found.1 in
+        ap (λ (cs : List ℕ). spelling_by (token_at cs)) (sym h.gap ∙ h.first) ∙ ap spelling_by found.1 in
         let kinds : is_spelt kind (found.0).spelling ≡ true = ap (λ (k : TokenKind). is_spelt k (found.0).spelling) (found.2).kind ∙ sound.1 in
         let within : length text ≤ length source = omega (arith, front_length source text at opened, utf8_valid_len_le source) in
         record {

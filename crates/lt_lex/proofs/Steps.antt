@@ -51,8 +51,8 @@ pub run_on : (p : ℕ → Bool) (text : List ℕ) (from at c : ℕ) → IsUtf8 t
     → Leads text from (behind_run p) (at + 1)
 run_on p text from at c u l lt e small h = record {
   same =
-    ap (λ (y : Bool). if y then behind_run p (ahead_at text (at + 1)) else (c ∷ ahead_at text (at + 1))) (sym h)
-    ∙ ap (behind_run p) (sym (ahead_ascii text at c u l.place lt e small)) ∙ l.same;
+      ap (λ (y : Bool). if y then behind_run p (ahead_at text (at + 1)) else (c ∷ ahead_at text (at + 1))) (sym h)
+      ∙ ap (behind_run p) (sym (ahead_ascii text at c u l.place lt e small)) ∙ l.same;
   place = IsCharBoundary-after_ascii text at u lt (omega (arith, e, small));
   later = omega (arith, l.later);
 }
@@ -63,8 +63,8 @@ run_off p text from at c u l lt e small h =
     let first = ahead_ascii text at c u l.place lt e small in
     record {
       chars =
-        first ∙ ap (λ (y : Bool). if y then behind_run p (ahead_at text (at + 1)) else (c ∷ ahead_at text (at + 1))) (sym h)
-        ∙ ap (behind_run p) (sym first) ∙ l.same;
+          first ∙ ap (λ (y : Bool). if y then behind_run p (ahead_at text (at + 1)) else (c ∷ ahead_at text (at + 1))) (sym h)
+          ∙ ap (behind_run p) (sym first) ∙ l.same;
       place = l.place;
       later = l.later;
     }

@@ -4,13 +4,15 @@
 mod ascii;
 mod number;
 mod scan;
+#[cfg(test)]
+mod tests;
 
 ghost use Rattle.std.specs.Prelude.{◌≡◌, ◌<◌, length};
 ghost use Rattle.lt_definitions.specs.Slices.{IsSlice, IsRead, bytes_of, OnToken, OnNone};
 ghost use Rattle.lt_definitions.specs.Texts.{Left, left_of, lexed, after, ending, IsToken};
 
-pub use number::parse_number;
 pub use lt_definitions::lexical::{Lexed, Token, TokenKind};
+pub use number::parse_number;
 use std::marker::Model;
 
 /// A text that is read token by token. Contracts see its bytes and the characters that are still ahead.
@@ -24,7 +26,7 @@ pub struct Lexer<'a> {
 impl<'a> Model for Lexer<'a> {
     ghost use Rattle.std.specs.Prelude.{chars, drop};
     ghost use Rattle.lt_definitions.specs.Slices.{IsSlice, IsRead, bytes_of, OnToken, OnNone};
-ghost use Rattle.lt_definitions.specs.Texts.{Left};
+    ghost use Rattle.lt_definitions.specs.Texts.{Left};
     ghost use Rattle.lt_lex.specs.Places.{IsOpened};
 
     ghost Value = { Left };

@@ -19,7 +19,7 @@ digits-init c = record {
 pub digits-preserved : goal.digits-preserved
 digits-preserved c = record {
   same =
-    sym (some_told c.digits.value c.in-Some.c c.in-Some-with_digit.more (ahead_at c.args.text.now c.in-Some.behind) (sym c.in-Some-with_digit.ensures)) ∙ ap (with_digits c.digits.value) (sym c.in-Some.ensures.chars) ∙ c.digits.invariant.same;
+      sym (some_told c.digits.value c.in-Some.c c.in-Some-with_digit.more (ahead_at c.args.text.now c.in-Some.behind) (sym c.in-Some-with_digit.ensures)) ∙ ap (with_digits c.digits.value) (sym c.in-Some.ensures.chars) ∙ c.digits.invariant.same;
   place = c.in-Some.ensures.boundary;
   small = small_told c.digits.value c.in-Some.c _ (sym c.in-Some-with_digit.ensures);
 }
