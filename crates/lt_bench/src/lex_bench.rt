@@ -29,6 +29,7 @@ fn make_text(alloc: Global, megabytes: usize) -> Result<Vec<u8>, AllocError> {
 }
 
 /// What was read of a text: how many tokens, how many of them names, the bytes of all of them, and what stands behind them.
+#[derive(Drop)]
 struct Counts {
     tokens: u64,
     names: u64,

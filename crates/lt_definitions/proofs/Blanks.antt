@@ -4,7 +4,7 @@ use Rattle.std.specs.Prelude.{if◌then◌else◌, ◌==◌, ◌||◌}
 use Rattle.std.proofs.lemmas.Bool.{and_parts, and_from, or_parts, or_right, eqb-true, not-true}
 use Rattle.std.specs.List.{list_all}
 use Rattle.lt_definitions.specs.Characters.{is_white, behind_gap}
-use Rattle.lt_definitions.specs.Gaps.{Blank, white, comment, with_gap, ends_line, MayStand, IsGap, begins_none, IsPast}
+use Rattle.lt_definitions.specs.Gaps.{Blank, white, comment, with_gap, ends_line, IsGap, begins_none, IsPast}
 
 -- ---- a gap is passed
 

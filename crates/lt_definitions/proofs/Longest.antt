@@ -1,5 +1,5 @@
 -- The token that is found is the longest one, and what is spelt as a token is found.
-use Rattle.std.proofs.Common.{lit<, ◌≡◌, ℕ, ◌<◌, ◌≤◌, ◌∙◌, ap, sym, subst, refl, Bool, true, false, ◌&&◌, List, [], ◌∷◌, ◌++◌, length, arith, not, Option, Some, None, MatchOption, append-nil}
+use Rattle.std.proofs.Common.{lit<, ◌≡◌, ℕ, ◌≤◌, ◌∙◌, ap, sym, subst, refl, Bool, true, false, List, [], ◌∷◌, ◌++◌, length, arith, Option, Some, None, MatchOption}
 use Rattle.std.specs.Prelude.{if◌then◌else◌, ◌==◌, codes, bytes_eq}
 use Rattle.std.proofs.lemmas.Bool.{and_parts, and_from, eqb-true, not-true}
 use Rattle.std.specs.Cmp.Lexicographic.{same_text}
@@ -8,9 +8,9 @@ use Rattle.std.specs.List.{list_all}
 use Rattle.unicode_ident.specs.Ident.{is_xid_continue}
 use Rattle.lt_definitions.specs.declared.lexical.TokenKind.{TokenKind}
 use Rattle.lt_definitions.specs.declared.lexical.TokenKind.TheVariants.{Name, TypeVariable, Number, Open, Close, OpenSquare, CloseSquare, OpenBrace, CloseBrace, Semicolon, Colon, Becomes, Dollar, Percent, Backslash}
-use Rattle.lt_definitions.specs.Characters.{starts_name, is_name, run_of, behind_run}
+use Rattle.lt_definitions.specs.Characters.{starts_name, run_of, behind_run}
 use Rattle.lt_definitions.specs.Tokens.{Scanned, run_at, variable_at, colon_at, sign_of, sign_at, token_from, token_at}
-use Rattle.lt_definitions.specs.Spelling.{is_type_variable, is_spelt, goes_on, stops, NoToken, IsLongest}
+use Rattle.lt_definitions.specs.Spelling.{is_spelt, goes_on, stops, NoToken, IsLongest}
 use Rattle.lt_definitions.proofs.Runs.{run_whole, run_passes, run_longest, run_stopped, run_ended, starts_name-ascii, digit_starts_none}
 
 -- ---- the token that begins with a character, where the tests on it are told

@@ -1,7 +1,7 @@
 -- What stands between tokens: white space and comments.
 use Rattle.std.specs.Prelude.{◌≡◌, ℕ, ◌==◌, ◌||◌, Bool, not, true, List, [], ◌∷◌, ◌++◌}
 use Rattle.std.specs.List.{list_all}
-use Rattle.lt_definitions.specs.Characters.{is_white, behind_gap}
+use Rattle.lt_definitions.specs.Characters.{is_white}
 
 -- a white character, or a comment by its characters behind the number sign
 pub data Blank : Type 0 where

@@ -1,6 +1,6 @@
 -- What stands next in a text that is read up to a place.
 use Rattle.std.proofs.Common.{◌≡◌, ℕ, ◌-◌, ◌<◌, ◌≤◌, ◌∙◌, ap, sym, subst, refl, Bool, true, false, List, [], ◌∷◌, length, take, drop, Option, Some, None, arith, ◌++◌, length-append, length-take, length-drop}
-use Rattle.std.specs.Prelude.{◌==◌, if◌then◌else◌, chars, IsUtf8, IsCharBoundary, encode_utf8_all}
+use Rattle.std.specs.Prelude.{◌==◌, if◌then◌else◌, IsUtf8, IsCharBoundary, encode_utf8_all}
 use Rattle.std.specs.Str.Lossy.{utf8_valid_len}
 use Rattle.std.proofs.lemmas.List.{take-append-drop, drop-append-le, take-append-le}
 use Rattle.std.proofs.Math.Seq.{take-append_seam}
@@ -9,9 +9,9 @@ use Rattle.lt_definitions.specs.declared.lexical.TokenKind.{TokenKind}
 use Rattle.lt_definitions.specs.declared.lexical.Lexed.TheVariants.{Token, End, BadByte, BadChar}
 use Rattle.lt_definitions.specs.Characters.{behind_gap}
 use Rattle.lt_definitions.specs.Tokens.{Scanned, token_from, token_at}
-use Rattle.lt_definitions.specs.Texts.{Left, end_of, place_of, past_gap, ending, lexed, lexed_at, lexed_by, after, after_by, IsToken, spelling, spelling_by, here}
+use Rattle.lt_definitions.specs.Texts.{Left, end_of, place_of, past_gap, ending, lexed, lexed_at, lexed_by, after, after_by, IsToken, spelling, spelling_by}
 use Rattle.lt_definitions.specs.declared.lexical.Lexed.{Lexed}
-use Rattle.lt_definitions.specs.Slices.{IsSlice, IsRead, OnNone}
+use Rattle.lt_definitions.specs.Slices.{IsRead, OnNone}
 use Rattle.lt_definitions.specs.Spelling.{is_spelt}
 use Rattle.lt_definitions.proofs.Longest.{IsSound, token_sound}
 use Rattle.lt_definitions.proofs.Shorter.{token_shortens}

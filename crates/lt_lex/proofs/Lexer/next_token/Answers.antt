@@ -1,6 +1,6 @@
-use Rattle.std.proofs.Common.{◌≡◌, ◌∙◌, ap, sym, refl}
+use Rattle.std.proofs.Common.{◌∙◌, ap, sym, refl}
 use Rattle.lt_definitions.specs.Texts.{lexed, after, ending}
-use Rattle.lt_lex.proofs.Nexts.{lexed_end, lexed_none, lexed_some, after_some, place_found, read_told, stays_told, shorter_told}
+use Rattle.lt_lex.proofs.Nexts.{lexed_end, lexed_none, lexed_some, after_some, place_found, read_told, shorter_told}
 use Rattle.lt_lex.proofs.Lexer.next_token.Goals as goal
 
 pub returns-in_default-clause-token : goal.returns-in_default-clause-token

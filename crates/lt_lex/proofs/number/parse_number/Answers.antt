@@ -1,4 +1,4 @@
-use Rattle.std.proofs.Common.{◌≡◌, ◌∙◌, ap, sym, lit<}
+use Rattle.std.proofs.Common.{◌∙◌, ap, sym, lit<}
 use Rattle.std.proofs.lemmas.Bool.{eqb-true, eqb-false}
 use Rattle.std.proofs.lemmas.Str.{IsCharBoundary-start}
 use Rattle.lt_lex.specs.Places.{ahead_at}

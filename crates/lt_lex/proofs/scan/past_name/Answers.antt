@@ -1,4 +1,4 @@
-use Rattle.std.proofs.Common.{◌≡◌, ◌<◌, ℕ, List, ap, sym, ◌∙◌, length, get_or, arith}
+use Rattle.std.proofs.Common.{ℕ, List, ap, sym, ◌∙◌, get_or, arith}
 use Rattle.unicode_ident.specs.Ident.{is_xid_continue}
 use Rattle.lt_lex.proofs.Steps.{run_on, run_off, run_out}
 use Rattle.lt_lex.proofs.Tables.{goes_on_told}
