@@ -1,5 +1,5 @@
 //! How fast a text is cut into tokens.
-use lt_lex::{Lexed, Lexer};
+use lt_lex::{Lexed, Lexer, TokenKind};
 use std::alloc::{AllocError, Global};
 use std::io;
 use std::rt::Clock;
@@ -28,20 +28,42 @@ fn make_text(alloc: Global, megabytes: usize) -> Result<Vec<u8>, AllocError> {
     Ok(text)
 }
 
-/// How many tokens the text has, and what stands behind them.
-fn count_tokens(text: &[u8]) -> (u64, Lexed) {
+/// What was read of a text: how many tokens, how many of them names, the bytes of all of them, and what stands behind them.
+#[derive(Drop)]
+struct Counts {
+    tokens: u64,
+    names: u64,
+    bytes: usize,
+    ending: Lexed,
+}
+
+fn count_tokens(text: &[u8]) -> Counts {
     let mut lexer = Lexer::new(text);
-    let mut count: u64 = 0;
-    'tokens: while let Lexed::Token(_) = lexer.next_token() {
-        count = count.saturating_add(1);
+    let mut tokens: u64 = 0;
+    let mut names: u64 = 0;
+    let mut bytes: usize = 0;
+    'tokens: loop {
+        match lexer.next_token() {
+            Lexed::Token(token) => {
+                tokens = tokens.wrapping_add(1);
+                names = names.wrapping_add(u64::from(token.kind == TokenKind::Name));
+                bytes = bytes.wrapping_add(token.to.wrapping_sub(token.from));
+            }
+            ending => {
+                return Counts {
+                    tokens,
+                    names,
+                    bytes,
+                    ending,
+                };
+            }
+        }
     }
-    (count, lexer.next_token())
 }
 
 /// The tokens of one block of lines.
 pub fn small(rt: &impl Print) -> io::Result<()> {
-    let (count, ending) = count_tokens(LINES);
-    println!(rt; "lex: {} bytes, {count} tokens, {ending:?}", LINES.len())
+    tell(rt, LINES.len(), &count_tokens(LINES))
 }
 
 /// The words are the size in millions of bytes, by default 200, and how often the text is read, by default once.
@@ -49,17 +71,24 @@ pub fn run<R: Print + Clock + Alloc<A = Global>>(rt: &R, words: &[String]) -> io
     let megabytes = number_at(words, 0, 200);
     let rounds = number_at(words, 1, 1);
     let text = make_text(rt.alloc(), megabytes)?;
-    println!(rt; "lex: {} bytes", text.len())?;
     for _ in 0..rounds {
         let start = Instant::now(rt)?;
-        let (count, ending) = count_tokens(&text);
+        let counts = count_tokens(&text);
         let micros = start.elapsed(rt)?.as_micros().max(1);
-        println!(rt;
-            "lex: {count} tokens, {ending:?}, {micros} us, {} MB/s",
-            text.len() as u128 / micros
-        )?;
+        tell(rt, text.len(), &counts)?;
+        println!(rt; "lex: {micros} us, {} MB/s", text.len() as u128 / micros)?;
     }
     Ok(())
+}
+
+fn tell(rt: &impl Print, size: usize, counts: &Counts) -> io::Result<()> {
+    let Counts {
+        tokens,
+        names,
+        bytes,
+        ending,
+    } = counts;
+    println!(rt; "lex: {size} bytes, {tokens} tokens of {bytes} bytes, {names} names, {ending:?}")
 }
 
 fn number_at(words: &[String], at: usize, otherwise: usize) -> usize {

@@ -1,5 +1,5 @@
 -- The token that is found is the longest one, and what is spelt as a token is found.
-use Rattle.std.proofs.Common.{lit<, ◌≡◌, ℕ, ◌<◌, ◌≤◌, ◌∙◌, ap, sym, subst, refl, Bool, true, false, ◌&&◌, List, [], ◌∷◌, ◌++◌, length, arith, not, Option, Some, None, MatchOption, append-nil}
+use Rattle.std.proofs.Common.{lit<, ◌≡◌, ℕ, ◌≤◌, ◌∙◌, ap, sym, subst, refl, Bool, true, false, List, [], ◌∷◌, ◌++◌, length, arith, Option, Some, None, MatchOption}
 use Rattle.std.specs.Prelude.{if◌then◌else◌, ◌==◌, codes, bytes_eq}
 use Rattle.std.proofs.lemmas.Bool.{and_parts, and_from, eqb-true, not-true}
 use Rattle.std.specs.Cmp.Lexicographic.{same_text}
@@ -8,9 +8,9 @@ use Rattle.std.specs.List.{list_all}
 use Rattle.unicode_ident.specs.Ident.{is_xid_continue}
 use Rattle.lt_definitions.specs.declared.lexical.TokenKind.{TokenKind}
 use Rattle.lt_definitions.specs.declared.lexical.TokenKind.TheVariants.{Name, TypeVariable, Number, Open, Close, OpenSquare, CloseSquare, OpenBrace, CloseBrace, Semicolon, Colon, Becomes, Dollar, Percent, Backslash}
-use Rattle.lt_definitions.specs.Characters.{starts_name, is_name, run_of, behind_run}
+use Rattle.lt_definitions.specs.Characters.{starts_name, run_of, behind_run}
 use Rattle.lt_definitions.specs.Tokens.{Scanned, run_at, variable_at, colon_at, sign_of, sign_at, token_from, token_at}
-use Rattle.lt_definitions.specs.Spelling.{is_type_variable, is_spelt, goes_on, stops, NoToken, IsLongest}
+use Rattle.lt_definitions.specs.Spelling.{is_spelt, goes_on, stops, NoToken, IsLongest}
 use Rattle.lt_definitions.proofs.Runs.{run_whole, run_passes, run_longest, run_stopped, run_ended, starts_name-ascii, digit_starts_none}
 
 -- ---- the token that begins with a character, where the tests on it are told
@@ -90,7 +90,7 @@ spelt_found TypeVariable (q ∷ c ∷ cs) rest h s =
     let quote = eqb-true q 39 (and_parts _ _ h).0 in
     let both = and_parts _ _ (and_parts _ _ h).1 in
     subst (λ (x : ℕ). IsFound TypeVariable (x ∷ c ∷ cs) rest) (sym quote)
-      (variable_found c (cs ++ rest) both.0 ∙ run_found TypeVariable (39 ∷ c ∷ []) is_xid_continue cs rest both.1 (run_of_word is_xid_continue cs rest both.1 (stops_run is_xid_continue rest TypeVariable (λ x. refl) s)))
+    (variable_found c (cs ++ rest) both.0 ∙ run_found TypeVariable (39 ∷ c ∷ []) is_xid_continue cs rest both.1 (run_of_word is_xid_continue cs rest both.1 (stops_run is_xid_continue rest TypeVariable (λ x. refl) s)))
 spelt_found Number [] rest h s = absurd (cc h)
 spelt_found Number (c ∷ cs) rest h s =
     let both = and_parts _ _ h in
@@ -144,7 +144,7 @@ spelt_reaches TypeVariable (q ∷ c ∷ cs) rest h =
     let quote = eqb-true q 39 (and_parts _ _ h).0 in
     let both = and_parts _ _ (and_parts _ _ h).1 in
     subst (λ (x : ℕ). Reaches (token_at (x ∷ c ∷ (cs ++ rest))) (length (x ∷ c ∷ cs))) (sym quote)
-      (reaches _ _ _ (variable_found c (cs ++ rest) both.0) (omega (arith, run_longest is_xid_continue cs rest both.1)))
+    (reaches _ _ _ (variable_found c (cs ++ rest) both.0) (omega (arith, run_longest is_xid_continue cs rest both.1)))
 spelt_reaches Number [] rest h = absurd (cc h)
 spelt_reaches Number (c ∷ cs) rest h =
     let both = and_parts _ _ h in
@@ -176,8 +176,8 @@ variable_sound : (c : ℕ) (cs : List ℕ) → c ≡ 39 → IsSound (c ∷ cs) (
 variable_sound c [] e = tt
 variable_sound c (d ∷ cs) e =
     choose (starts_name d) (c ∷ d ∷ cs) (Some (run_at TypeVariable (39 ∷ d ∷ []) is_xid_continue cs)) None
-      (λ h. (λ i. e i ∷ d ∷ run_whole is_xid_continue cs i, and_from _ _ h (run_passes is_xid_continue cs)))
-      (λ h. tt)
+    (λ h. (λ i. e i ∷ d ∷ run_whole is_xid_continue cs i, and_from _ _ h (run_passes is_xid_continue cs)))
+    (λ h. tt)
 
 colon_sound : (c : ℕ) (cs : List ℕ) → c ≡ 58 → IsSound (c ∷ cs) (Some (colon_at cs))
 colon_sound c [] e = (λ i. e i ∷ [], refl)
@@ -218,9 +218,9 @@ pub token_sound : (text : List ℕ) → IsSound text (token_at text)
 token_sound [] = tt
 token_sound (c ∷ cs) =
     choose (starts_name c) (c ∷ cs) (Some (run_at Name (c ∷ []) is_xid_continue cs)) _
-      (λ h. (λ i. c ∷ run_whole is_xid_continue cs i, and_from _ _ h (run_passes is_xid_continue cs)))
+    (λ h. (λ i. c ∷ run_whole is_xid_continue cs i, and_from _ _ h (run_passes is_xid_continue cs)))
     (λ _. choose (is_ascii_digit c) (c ∷ cs) (Some (run_at Number (c ∷ []) is_ascii_digit cs)) _
-      (λ h. (λ i. c ∷ run_whole is_ascii_digit cs i, and_from _ _ h (run_passes is_ascii_digit cs)))
+    (λ h. (λ i. c ∷ run_whole is_ascii_digit cs i, and_from _ _ h (run_passes is_ascii_digit cs)))
     (λ _. choose (c == 39) (c ∷ cs) (variable_at cs) _ (λ e. variable_sound c cs (eqb-true c 39 e))
     (λ _. choose (c == 58) (c ∷ cs) (Some (colon_at cs)) _ (λ e. colon_sound c cs (eqb-true c 58 e))
     (λ _. sign_sound (sign_of c) c cs (sign_is c)))))
@@ -243,4 +243,4 @@ by_answer text (Some t) s r = record { front = s.0; spelt = s.1; longest = r; on
 pub longest_found : (text : List ℕ) → MatchOption (token_at text) (NoToken text) (λ t. IsLongest text t)
 longest_found text =
     by_answer text (token_at text) (token_sound text)
-      (λ kind word rest e h. subst (λ (x : List ℕ). Reaches (token_at x) (length word)) (sym e) (spelt_reaches kind word rest h))
+    (λ kind word rest e h. subst (λ (x : List ℕ). Reaches (token_at x) (length word)) (sym e) (spelt_reaches kind word rest h))

@@ -1,7 +1,7 @@
 -- Runs of characters, and characters that begin no name.
-use Rattle.std.proofs.Common.{◌≡◌, ℕ, ◌<◌, ◌≤◌, ◌∙◌, ap, refl, Bool, true, false, ◌&&◌, ◌||◌, List, [], ◌∷◌, ◌++◌, length, arith, not}
-use Rattle.std.specs.Prelude.{if◌then◌else◌, ◌==◌, nat_le}
-use Rattle.std.proofs.lemmas.Bool.{and_parts, and_from, or_from, leb-true, lt-leb, not-true, ne_eqb, and_left}
+use Rattle.std.proofs.Common.{◌≡◌, ℕ, ◌<◌, ◌≤◌, ◌∙◌, ap, refl, Bool, true, false, ◌||◌, List, [], ◌∷◌, ◌++◌, length, arith}
+use Rattle.std.specs.Prelude.{if◌then◌else◌, ◌==◌}
+use Rattle.std.proofs.lemmas.Bool.{and_parts, and_from, or_from, leb-true, lt-leb, ne_eqb, and_left}
 use Rattle.std.specs.Char.{is_ascii_alphabetic, is_ascii_digit}
 use Rattle.std.specs.List.{list_all}
 use Rattle.unicode_ident.proofs.IdentLemmas.{is_xid_start-ascii}
@@ -39,17 +39,19 @@ pub run_stopped : (p : ℕ → Bool) (cs : List ℕ) → (c : ℕ) (rest : List 
 run_stopped p [] c rest h e = (ap (λ (y : Bool). if y then c ∷ run_of p rest else []) e, ap (λ (y : Bool). if y then behind_run p rest else (c ∷ rest)) e)
 run_stopped p (d ∷ cs) c rest h e =
     let both = and_parts _ _ h in
-    let later = run_stopped p cs c rest both.1 e in
-    (ap (λ (y : Bool). if y then d ∷ run_of p (cs ++ c ∷ rest) else []) both.0 ∙ ap (λ (l : List ℕ). d ∷ l) later.0,
-     ap (λ (y : Bool). if y then behind_run p (cs ++ c ∷ rest) else (d ∷ (cs ++ c ∷ rest))) both.0 ∙ later.1)
+    let later = run_stopped p cs c rest both.1 e in (
+      ap (λ (y : Bool). if y then d ∷ run_of p (cs ++ c ∷ rest) else []) both.0 ∙ ap (λ (l : List ℕ). d ∷ l) later.0,
+      ap (λ (y : Bool). if y then behind_run p (cs ++ c ∷ rest) else (d ∷ (cs ++ c ∷ rest))) both.0 ∙ later.1,
+    )
 
 pub run_ended : (p : ℕ → Bool) (cs : List ℕ) → list_all p cs ≡ true → (run_of p (cs ++ []) ≡ cs) × (behind_run p (cs ++ []) ≡ [])
 run_ended p [] h = (refl, refl)
 run_ended p (d ∷ cs) h =
     let both = and_parts _ _ h in
-    let later = run_ended p cs both.1 in
-    (ap (λ (y : Bool). if y then d ∷ run_of p (cs ++ []) else []) both.0 ∙ ap (λ (l : List ℕ). d ∷ l) later.0,
-     ap (λ (y : Bool). if y then behind_run p (cs ++ []) else (d ∷ (cs ++ []))) both.0 ∙ later.1)
+    let later = run_ended p cs both.1 in (
+      ap (λ (y : Bool). if y then d ∷ run_of p (cs ++ []) else []) both.0 ∙ ap (λ (l : List ℕ). d ∷ l) later.0,
+      ap (λ (y : Bool). if y then behind_run p (cs ++ []) else (d ∷ (cs ++ []))) both.0 ∙ later.1,
+    )
 
 -- which ASCII characters begin a name
 pub starts_name-ascii : (c : ℕ) → c < 128 → starts_name c ≡ (is_ascii_alphabetic c || (c == 95))
@@ -64,4 +66,4 @@ digit_starts_none c h =
     let b = digit_bounds c h in
     starts_name-ascii c (omega (arith, b.0, b.1))
     ∙ or_from _ _ (or_from _ _ (and_left _ _ (lt-leb 65 c (omega (arith, b.1)))) (and_left _ _ (lt-leb 97 c (omega (arith, b.1)))))
-        (ne_eqb c 95 (λ e. omega (arith, b.1, e)))
+    (ne_eqb c 95 (λ e. omega (arith, b.1, e)))

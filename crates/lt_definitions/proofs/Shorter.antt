@@ -1,14 +1,13 @@
 -- Each token takes characters.
-use Rattle.std.proofs.Common.{◌≡◌, ℕ, ◌<◌, ◌≤◌, ◌∙◌, ap, sym, subst, refl, Bool, true, false, List, [], ◌∷◌, ◌++◌, length, arith, not, Option, Some, None, length-append}
+use Rattle.std.proofs.Common.{◌≡◌, ℕ, ◌<◌, ◌≤◌, ap, refl, Bool, true, false, List, [], ◌∷◌, length, arith, not, Option, Some, None, length-append}
 use Rattle.std.specs.Prelude.{if◌then◌else◌, ◌==◌}
 use Rattle.lt_definitions.specs.declared.lexical.TokenKind.{TokenKind}
 use Rattle.lt_definitions.specs.declared.lexical.TokenKind.TheVariants.{Name}
-use Rattle.lt_definitions.specs.declared.lexical.Lexed.{Lexed}
-use Rattle.lt_definitions.specs.declared.lexical.Lexed.TheVariants.{Token, End, BadByte, BadChar}
+use Rattle.lt_definitions.specs.declared.lexical.Lexed.TheVariants.{End, BadByte}
 use Rattle.lt_definitions.specs.Characters.{is_white, behind_gap}
 use Rattle.lt_definitions.specs.Tokens.{Scanned, token_at}
 use Rattle.lt_definitions.specs.Spelling.{is_spelt}
-use Rattle.lt_definitions.specs.Texts.{Left, past_gap, ending, end_of, lexed, lexed_at, lexed_by, after, after_by, IsToken}
+use Rattle.lt_definitions.specs.Texts.{Left, past_gap, end_of, lexed, lexed_at, lexed_by, after, after_by, IsToken}
 use Rattle.lt_definitions.proofs.Longest.{IsSound, token_sound}
 
 nothing_spelt : (kind : TokenKind) → is_spelt kind [] ≡ false

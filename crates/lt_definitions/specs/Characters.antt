@@ -26,9 +26,9 @@ abbrev pub more_digits : ℕ → List ℕ → ℕ
 more_digits n [] = n
 more_digits n (c ∷ cs) = more_digits (n * 10 + (c - 48)) cs
 
--- the value of a numeral, where it is at most 2^32 - 1
+-- the value of a numeral that is at most 2^32 - 1
 abbrev pub number_of : List ℕ → Option ℕ
-number_of cs = if nat_lt (more_digits 0 cs) (2 ^ 32) then Some (more_digits 0 cs) else None
+number_of cs = if is_numeral cs && nat_lt (more_digits 0 cs) (2 ^ 32) then Some (more_digits 0 cs) else None
 
 -- the longest front whose characters pass
 abbrev pub run_of : (ℕ → Bool) → List ℕ → List ℕ

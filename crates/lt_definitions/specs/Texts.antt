@@ -1,8 +1,7 @@
 -- What stands next in a text that is read from its begin.
-use Rattle.std.specs.Prelude.{◌≡◌, ℕ, ◌-◌, ◌==◌, Bool, false, List, [], ◌∷◌, length, take, Option, Some, None, if◌then◌else◌, encode_utf8_all}
+use Rattle.std.specs.Prelude.{ℕ, ◌-◌, ◌==◌, false, List, [], ◌∷◌, length, take, Option, Some, None, if◌then◌else◌, encode_utf8_all}
 use Rattle.std.specs.Str.{chars}
 use Rattle.std.specs.Str.Lossy.{utf8_valid_len}
-use Rattle.lt_definitions.specs.declared.lexical.Token as token
 use Rattle.lt_definitions.specs.declared.lexical.Lexed.{Lexed}
 use Rattle.lt_definitions.specs.declared.lexical.Lexed.TheVariants.{Token, End, BadByte, BadChar}
 use Rattle.lt_definitions.specs.Characters.{behind_gap}
@@ -24,6 +23,10 @@ end_of s = utf8_valid_len s.source
 -- the place of its last characters
 abbrev pub place_of : Left → List ℕ → ℕ
 place_of s cs = end_of s - length (encode_utf8_all cs)
+
+-- the place that the reading has come to
+abbrev pub here : Left → ℕ
+here s = place_of s s.ahead
 
 -- behind white space and comments
 abbrev pub past_gap : Left → List ℕ

@@ -1,6 +1,8 @@
 //! What a text is cut into, and the laws of that cutting. Each function does nothing: its contract is the law.
-ghost use Rattle.std.specs.Prelude.{◌≡◌, ◌<◌, ◌++◌, ℕ, List, Some, None, MatchOption, true, length};
+ghost use Rattle.std.specs.Prelude.{◌≡◌, ◌<◌, ◌↔◌, ◌++◌, ℕ, List, Some, None, MatchOption, true, false, length};
 ghost use Rattle.lt_definitions.specs.Tokens.{Scanned, token_at};
+ghost use Rattle.lt_definitions.specs.Characters.{behind_gap};
+ghost use Rattle.lt_definitions.specs.Gaps.{IsPast};
 ghost use Rattle.lt_definitions.specs.Texts.{Left, lexed, after, IsToken};
 ghost use Rattle.lt_definitions.specs.Spelling.{is_spelt, stops, NoToken, IsLongest};
 
@@ -63,19 +65,21 @@ pub enum Lexed {
 #[tactic(auto, using(crate::proofs::Longest::longest_found))]
 pub fn tokens_are_longest()
     ensures { (text : List ℕ) → MatchOption (token_at text) (NoToken text) (λ t. IsLongest text t) }
-{
-}
+{}
 
 /// What is spelt as a token is found as that token where what follows doesn't go on it.
 #[tactic(auto, using(crate::proofs::Longest::spelt_found))]
 pub fn spelt_tokens_are_found()
     ensures { (kind : TokenKind) (word rest : List ℕ) → is_spelt kind word ≡ true → stops kind rest ≡ true → token_at (word ++ rest) ≡ Some (record { kind = kind; spelling = word; rest = rest }) }
-{
-}
+{}
+
+/// What is behind white space and comments is what they lead to and no further.
+pub fn gaps_are_longest()
+    ensures { (text rest : List ℕ) → IsPast text rest ↔ (behind_gap false text ≡ rest) }
+{}
 
 /// A text is shorter behind each of its tokens.
 #[tactic(auto, using(crate::proofs::Shorter::token_shortens))]
 pub fn tokens_take_characters()
     ensures { (s : Left) → IsToken (lexed s) → length (after s).ahead < length s.ahead }
-{
-}
+{}

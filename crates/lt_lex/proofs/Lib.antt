@@ -1,3 +1,4 @@
 pub mod Steps
 pub mod Nexts
 pub mod Tables
+pub mod Digits

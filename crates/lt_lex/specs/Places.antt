@@ -1,8 +1,9 @@
 -- Places in a text, between its characters.
-use Rattle.std.specs.Prelude.{◌≡◌, ℕ, ◌≤◌, List, Option, Some, None, true, take, drop, chars, IsCharBoundary}
+use Rattle.std.specs.Prelude.{◌≡◌, ℕ, ◌<◌, ◌≤◌, false, List, ◌∷◌, Option, Some, None, true, take, drop, chars, IsCharBoundary}
 use Rattle.std.specs.Str.{is_utf8}
 use Rattle.std.specs.Str.Lossy.{utf8_valid_len}
 use Rattle.lt_definitions.specs.declared.lexical.TokenKind.{TokenKind}
+use Rattle.lt_definitions.specs.Characters.{behind_gap}
 use Rattle.lt_definitions.specs.Tokens.{Scanned}
 
 -- the characters from a place on
@@ -38,3 +39,12 @@ pub record Leads (text : List ℕ) (at : ℕ) (f : List ℕ → List ℕ) (to : 
   pub same : f (ahead_at text to) ≡ f (ahead_at text at)
   pub place : IsCharBoundary text to
   pub later : at ≤ to
+
+-- behind the gap at the first place, the character c stands at the second, and the third is behind it
+pub record Begins (text : List ℕ) (at from c behind : ℕ) : Type 0 where
+  pub gap : ahead_at text from ≡ behind_gap false (ahead_at text at)
+  pub first : ahead_at text from ≡ c ∷ ahead_at text behind
+  pub place : IsCharBoundary text from
+  pub next : IsCharBoundary text behind
+  pub later : at ≤ from
+  pub longer : from < behind

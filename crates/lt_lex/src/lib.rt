@@ -2,12 +2,17 @@
 #![tactic(auto)]
 
 mod ascii;
+mod number;
 mod scan;
+#[cfg(test)]
+mod tests;
 
 ghost use Rattle.std.specs.Prelude.{◌≡◌, ◌<◌, length};
+ghost use Rattle.lt_definitions.specs.Slices.{IsSlice, IsRead, bytes_of, OnToken, OnNone};
 ghost use Rattle.lt_definitions.specs.Texts.{Left, left_of, lexed, after, ending, IsToken};
 
 pub use lt_definitions::lexical::{Lexed, Token, TokenKind};
+pub use number::parse_number;
 use std::marker::Model;
 
 /// A text that is read token by token. Contracts see its bytes and the characters that are still ahead.
@@ -20,6 +25,7 @@ pub struct Lexer<'a> {
 
 impl<'a> Model for Lexer<'a> {
     ghost use Rattle.std.specs.Prelude.{chars, drop};
+    ghost use Rattle.lt_definitions.specs.Slices.{IsSlice, IsRead, bytes_of, OnToken, OnNone};
     ghost use Rattle.lt_definitions.specs.Texts.{Left};
     ghost use Rattle.lt_lex.specs.Places.{IsOpened};
 
@@ -44,13 +50,15 @@ impl<'a> Lexer<'a> {
     }
 
     /// The next token, or why there is none; then the lexer stays where it is and answers the same again. It takes time in the bytes that it passes over.
+    #[inline(always)]
     pub fn next_token(&mut self) -> Lexed
         ensures token { result ≡ lexed self.old }
         ensures left { self.new ≡ after self.old }
+        ensures read { OnToken result (IsRead self.old self.new) }
+        ensures stays { OnNone result (self.new ≡ self.old) }
         ensures shorter { IsToken result → length self.new.ahead < length self.old.ahead }
     {
-        let from = scan::past_gap(self.text, self.at);
-        let Some((first, behind)) = scan::char_at(self.text, from) else {
+        let Some((from, first, behind)) = scan::first_char(self.text, self.at) else {
             return self.ending();
         };
         let Some((kind, to)) = scan::token_from(self.text, first, behind) else {
@@ -58,6 +66,23 @@ impl<'a> Lexer<'a> {
         };
         self.at = to;
         Lexed::Token(Token { kind, from, to })
+    }
+
+    /// The bytes of a token of this text.
+    pub fn bytes(&self, token: Token) -> &'a [u8]
+        requires { IsSlice self.now.source token }
+        ensures { result.now ≡ bytes_of self.now.source token }
+    {
+        &self.source[token.from..token.to]
+    }
+
+    /// The characters of a token of this text.
+    pub fn text(&self, token: Token) -> &'a str
+        requires { IsSlice self.now.source token }
+        ensures { result.now ≡ bytes_of self.now.source token }
+    {
+        let bytes = self.bytes(token);
+        unsafe { str::from_utf8_unchecked(bytes) }
     }
 
     /// What stands where no character is left.

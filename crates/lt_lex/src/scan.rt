@@ -5,7 +5,7 @@ ghost use Rattle.std.specs.Str.Lossy.{utf8_valid_len};
 ghost use Rattle.unicode_ident.specs.Ident.{is_xid_continue};
 ghost use Rattle.lt_definitions.specs.Characters.{is_white, starts_name, behind_run, behind_gap};
 ghost use Rattle.lt_definitions.specs.Tokens.{token_from, variable_at, colon_at, sign_of};
-ghost use Rattle.lt_lex.specs.Places.{ahead_at, IsFound, IsBehind};
+ghost use Rattle.lt_lex.specs.Places.{ahead_at, IsFound, IsBehind, Begins};
 
 use crate::TokenKind;
 use crate::ascii::{GOES_ON, STARTS};
@@ -64,21 +64,22 @@ fn wide_char_at(text: &str, at: usize) -> Option<(char, usize)>
     Some((c, text.len() - left.as_str().len()))
 }
 
-/// The place behind white space and comments.
-pub(crate) fn past_gap(text: &str, mut at: usize) -> usize
+/// The first character behind white space and comments: its place, itself, and the place behind it.
+#[inline(always)]
+pub(crate) fn first_char(text: &str, mut at: usize) -> Option<(usize, char, usize)>
     requires { IsCharBoundary text.now at }
-    ensures { IsBehind text.now at (behind_gap false) result }
+    ensures { MatchOption result (behind_gap false (ahead_at text.now at) ≡ []) (λ p. Begins text.now at p.0 p.1 p.2) }
 {
     'gap: while let Some((c, behind)) = char_at(text, at) {
-        if c == '#' {
-            at = past_line(text, behind);
-        } else if is_white(c) {
+        if is_white(c) {
             at = behind;
+        } else if c == '#' {
+            at = past_line(text, behind);
         } else {
-            return at;
+            return Some((at, c, behind));
         }
     }
-    at
+    None
 }
 
 /// The place of the next line feed, or of the text's end.
@@ -106,8 +107,29 @@ fn past_name(text: &str, mut at: usize) -> usize
     requires { IsCharBoundary text.now at }
     ensures { IsBehind text.now at (behind_run is_xid_continue) result }
 {
+    let bytes = text.as_bytes();
+    'name: while at < bytes.len() {
+        let byte = bytes[at];
+        if byte >= 128 {
+            return past_wide_name(text, at);
+        }
+        if !GOES_ON[byte as usize] {
+            return at;
+        }
+        at += 1;
+    }
+    at
+}
+
+/// The place behind the characters that go on a name, where some are longer than one byte.
+#[cold]
+#[inline(never)]
+fn past_wide_name(text: &str, mut at: usize) -> usize
+    requires { IsCharBoundary text.now at }
+    ensures { IsBehind text.now at (behind_run is_xid_continue) result }
+{
     'name: while let Some((c, behind)) = char_at(text, at) {
-        if !goes_on_name(c) {
+        if !is_xid_continue(c) {
             return at;
         }
         at = behind;
@@ -138,15 +160,6 @@ fn starts_name(c: char) -> bool
     is_xid_start(c)
 }
 
-fn goes_on_name(c: char) -> bool
-    ensures { result ≡ is_xid_continue c }
-{
-    if (c as u32) < 128 {
-        return GOES_ON[c as usize];
-    }
-    is_xid_continue(c)
-}
-
 /// The token that begins with this character, and the place behind it.
 pub(crate) fn token_from(text: &str, first: char, behind: usize) -> Option<(TokenKind, usize)>
     requires { IsCharBoundary text.now behind }
@@ -155,16 +168,14 @@ pub(crate) fn token_from(text: &str, first: char, behind: usize) -> Option<(Toke
     if starts_name(first) {
         return Some((TokenKind::Name, past_name(text, behind)));
     }
-    if first.is_ascii_digit() {
-        return Some((TokenKind::Number, past_digits(text, behind)));
-    }
     match first {
         '\'' => variable_at(text, behind),
         ':' => Some(colon_at(text, behind)),
-        _ => {
-            let kind = sign_of(first)?;
-            Some((kind, behind))
-        }
+        _ => match sign_of(first) {
+            Some(kind) => Some((kind, behind)),
+            None if first.is_ascii_digit() => Some((TokenKind::Number, past_digits(text, behind))),
+            None => None,
+        },
     }
 }
 

@@ -1,4 +1,4 @@
-use Rattle.std.proofs.Common.{◌≡◌, ◌++◌, ◌∙◌, sym, ap, drop}
+use Rattle.std.proofs.Common.{◌≡◌, ◌++◌, drop}
 use Rattle.std.specs.Char.{encode_utf8}
 use Rattle.lt_lex.proofs.Steps.{ahead_behind, boundary_behind}
 use Rattle.lt_lex.proofs.scan.wide_char_at.Goals as goal
