@@ -2,6 +2,7 @@
 #![tactic(auto)]
 
 mod fault;
+pub mod form;
 mod proof;
 mod rules;
 mod terms;

@@ -1,8 +1,9 @@
 //! What a theory has declared and stated, and the lines of a derivation over it.
 
 use crate::fault::Fault;
+use crate::form::{Item, Line, Term, TermNode, Ty, TyNode};
 use indexmap::{IndexMap, IndexSet};
-use lt_hol::{Item, Line, Memory, Name, Term, TermNode, Ty, TyNode};
+use lt_hol::{Name, TryCopy};
 use std::alloc::Global;
 use std::collections::HashMap;
 
@@ -67,7 +68,7 @@ impl Proof {
         let predicate = self.make_function(alloc, self.boolean, self.boolean)?;
         let connective = self.make_function(alloc, self.boolean, predicate)?;
         let name = built_in(alloc, "imp")?;
-        self.constants.insert(name.copy()?, Some(connective))?;
+        self.constants.insert(name.copy(alloc)?, Some(connective))?;
         self.imp = self.make_term(TermNode::Const(name), connective)?;
         Ok(())
     }
@@ -87,21 +88,21 @@ impl Proof {
     /// The first fault of the item, its types and terms before its name; `Memory`.
     pub fn add_item(&mut self, alloc: Global, item: &Item) -> Result<(), Fault> {
         match item {
-            Item::Type(name, arity) => self.add_type(name, *arity),
+            Item::Type(name, arity) => self.add_type(alloc, name, *arity),
             Item::Const(name, ty) => self.add_constant(alloc, name, ty),
             Item::Axiom(label, statement) => {
                 let statement = self.statement(alloc, statement)?;
-                self.add_statement(label, statement)
+                self.add_statement(alloc, label, statement)
             }
             Item::Lemma(label, statement, lines) => self.add_lemma(alloc, label, statement, lines),
         }
     }
 
-    fn add_type(&mut self, name: &Name, arity: u32) -> Result<(), Fault> {
+    fn add_type(&mut self, alloc: Global, name: &Name, arity: u32) -> Result<(), Fault> {
         if self.arities.contains_key(name) {
             return Err(Fault::Duplicate);
         }
-        self.arities.insert(name.copy()?, arity)?;
+        self.arities.insert(name.copy(alloc)?, arity)?;
         Ok(())
     }
 
@@ -110,15 +111,15 @@ impl Proof {
         if self.constants.contains_key(name) {
             return Err(Fault::Duplicate);
         }
-        self.constants.insert(name.copy()?, Some(ty))?;
+        self.constants.insert(name.copy(alloc)?, Some(ty))?;
         Ok(())
     }
 
-    fn add_statement(&mut self, label: &Name, statement: usize) -> Result<(), Fault> {
+    fn add_statement(&mut self, alloc: Global, label: &Name, statement: usize) -> Result<(), Fault> {
         if self.statements.contains_key(label) {
             return Err(Fault::Duplicate);
         }
-        self.statements.insert(label.copy()?, statement)?;
+        self.statements.insert(label.copy(alloc)?, statement)?;
         Ok(())
     }
 
@@ -139,7 +140,7 @@ impl Proof {
             self.lines.push(sequent)?;
         }
         self.proves(statement)?;
-        self.add_statement(label, statement)
+        self.add_statement(alloc, label, statement)
     }
 
     // Whether the last line has no hypothesis and that conclusion.

@@ -2,7 +2,8 @@
 
 use crate::fault::Fault;
 use crate::proof::{Proof, Sequent};
-use lt_hol::{Line, Name, Term};
+use crate::form::{Line, Term};
+use lt_hol::Name;
 use std::alloc::Global;
 
 impl Proof {

@@ -2,7 +2,8 @@
 
 use crate::fault::Fault;
 use crate::proof::Proof;
-use lt_hol::{Name, Term, TermNode};
+use crate::form::{Term, TermNode};
+use lt_hol::{Name, TryCopy};
 use std::alloc::Global;
 
 impl Proof {
@@ -21,7 +22,7 @@ impl Proof {
         let mut loaded = Vec::new(alloc);
         let mut last = None;
         for node in &term.nodes {
-            let pair = self.load_node(node, &loaded)?;
+            let pair = self.load_node(alloc, node, &loaded)?;
             loaded.push(pair)?;
             last = Some(pair);
         }
@@ -31,13 +32,14 @@ impl Proof {
     // The index of a node over loaded ones, and that of its type.
     fn load_node(
         &mut self,
+        alloc: Global,
         node: &TermNode,
         loaded: &[(usize, usize)],
     ) -> Result<(usize, usize), Fault> {
         match node {
             TermNode::Const(name) => {
                 let ty = self.constant_type(name)?;
-                let index = self.make_term(TermNode::Const(name.copy()?), ty)?;
+                let index = self.make_term(TermNode::Const(name.copy(alloc)?), ty)?;
                 Ok((index, ty))
             }
             TermNode::App(function, argument) => {

@@ -2,7 +2,8 @@
 
 use crate::fault::Fault;
 use crate::proof::Proof;
-use lt_hol::{Name, Ty, TyNode};
+use crate::form::{Ty, TyNode};
+use lt_hol::{Name, TryCopy};
 use std::alloc::Global;
 
 impl Proof {
@@ -19,7 +20,7 @@ impl Proof {
         for node in &ty.nodes {
             self.check_arity(node)?;
             let arguments = indices_at(alloc, &loaded, &node.arguments)?;
-            let index = self.make_type(node.name.copy()?, arguments)?;
+            let index = self.make_type(node.name.copy(alloc)?, arguments)?;
             loaded.push(index)?;
             last = Some(index);
         }

@@ -1,6 +1,7 @@
 //! Prints types, terms and the summary lines of items.
 
-use lt_hol::{Item, Memory, Name, Term, TermNode, Ty, TyNode};
+use lt_hol::Name;
+use lt_kernel::form::{Item, Term, TermNode, Ty, TyNode};
 use std::alloc::{AllocError, Global};
 
 /// An item's summary line: the item without its lines and its semicolon, and a line feed.

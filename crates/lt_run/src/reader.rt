@@ -1,7 +1,8 @@
 //! Reads the header and the items of a text, one after another.
 ghost use Rattle.std.specs.Prelude.{◌<◌, ◌≤◌, length, OnOk, IfOk, IsSome};
 
-use lt_hol::{Item, Line, Memory, Name};
+use lt_hol::{Memory, Name};
+use lt_kernel::form::{Item, Line};
 use lt_lex::{Lexed, Lexer, Token, TokenKind};
 use std::alloc::{AllocError, AllocFailed, Global};
 

@@ -2,7 +2,7 @@
 ghost use Rattle.std.specs.Prelude.{◌≤◌, length};
 
 use crate::reader::{Reader, Unread};
-use lt_hol::{Term, TermNode};
+use lt_kernel::form::{Term, TermNode};
 use lt_lex::TokenKind;
 use std::alloc::Global;
 

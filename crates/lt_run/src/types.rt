@@ -2,7 +2,8 @@
 ghost use Rattle.std.specs.Prelude.{◌≤◌, length};
 
 use crate::reader::{Reader, Unread};
-use lt_hol::{Name, Ty, TyNode};
+use lt_hol::Name;
+use lt_kernel::form::{Ty, TyNode};
 use lt_lex::TokenKind;
 use std::alloc::Global;
 

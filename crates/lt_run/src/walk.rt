@@ -4,8 +4,8 @@ ghost use Rattle.lt_io.specs.Causes.{Rose};
 
 use crate::printing::summary_line;
 use crate::reader::{Reader, Unread};
-use lt_hol::Item;
 use lt_io::{Sink, write_all};
+use lt_kernel::form::Item;
 use lt_kernel::{Fault, Proof};
 use std::alloc::{AllocError, Global};
 

@@ -1,6 +1,6 @@
 //! Types without type variables.
 
-use crate::name::Name;
+use lt_hol::Name;
 
 /// A constructor with its arguments, each the index of an earlier node.
 #[derive(Debug, PartialEq, Eq, Hash, Drop)]

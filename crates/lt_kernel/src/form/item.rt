@@ -1,8 +1,8 @@
 //! The items of a plain theory, as data.
 
-use crate::name::Name;
-use crate::term::Term;
-use crate::ty::Ty;
+use lt_hol::Name;
+use crate::form::term::Term;
+use crate::form::ty::Ty;
 
 /// A line of a derivation. Lines are numbered from 1.
 #[derive(Debug, Drop)]

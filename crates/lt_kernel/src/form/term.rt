@@ -1,6 +1,6 @@
 //! Terms of constants and applications.
 
-use crate::name::Name;
+use lt_hol::Name;
 
 /// A constant, or the application of an earlier node to an earlier node.
 #[derive(Debug, PartialEq, Eq, Hash, Drop)]
