@@ -1,0 +1,27 @@
+//! Names, lists and the types of higher-order logic.
+#![tactic(auto)]
+
+mod list;
+mod memory;
+mod name;
+mod substitute;
+mod ty;
+mod ty_builder;
+mod ty_map;
+
+pub use list::{List, TryCopy};
+pub use memory::Memory;
+pub use name::Name;
+pub use substitute::tsub;
+pub use ty::{Ty, TyNode};
+pub use ty_builder::TyBuilder;
+pub use ty_map::TyMap;
+
+/// A list of indices.
+pub type Ids = List<usize>;
+
+/// A list of names.
+pub type Names = List<Name>;
+
+/// A list of types.
+pub type Tys = List<Ty>;
