@@ -1,5 +1,5 @@
 -- Names as texts and as characters.
-use Rattle.std.proofs.Common.{◌≡◌, ℕ, ◌++◌, [], ◌∷◌, List, Bool, true, false, ◌&&◌, length, refl, arith, sym, ◌∙◌, ap, nat_eq}
+use Rattle.std.proofs.Common.{◌≡◌, ℕ, ◌++◌, [], ◌∷◌, List, Bool, true, false, ◌&&◌, not, length, refl, arith, sym, ◌∙◌, ap, nat_eq}
 use Rattle.lt_types.specs.Lexical.{is_name, name_goes_on, may_stand}
 use Rattle.std.specs.Char.{encode_utf8}
 use Rattle.std.specs.Cmp.Lexicographic.{pointwise}
@@ -42,3 +42,8 @@ chars-nil = refl
 pub left-end : (text rest : List ℕ) (first : Bool) → IsLeft text rest first → length rest ≡ 0 → is_name (chars text) ≡ name_goes_on first []
 left-end text [] first h e = h.same ∙ ap (name_goes_on first) chars-nil
 left-end text (b ∷ rest) first h e = absurd (omega arith)
+
+-- no more characters end a name, but not its front
+pub name_end : (first : Bool) → not first ≡ name_goes_on first []
+name_end true = refl
+name_end false = refl

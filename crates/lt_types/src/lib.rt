@@ -11,7 +11,7 @@ mod ty_map;
 
 pub use list::{List, TryCopy};
 pub use memory::Memory;
-pub use name::Name;
+pub use name::{Name, is_name};
 pub use substitute::tsub;
 pub use ty::{Ty, TyNode};
 pub use ty_builder::TyBuilder;

@@ -26,7 +26,7 @@ pub struct Name {
 }
 
 impl Model for Name {
-    ghost use Rattle.std.specs.Prelude.{List, ℕ, string_bytes};
+    ghost use Rattle.std.specs.Prelude.{◌≡◌, List, ℕ, true, string_bytes};
     ghost use Rattle.std.specs.Coded.{coded_list, coded_ℕ};
     ghost use Rattle.std.specs.Str.{chars};
 
@@ -35,35 +35,56 @@ impl Model for Name {
     ghost coded = { coded_list coded_ℕ };
 
     ghost view = { λ n. chars (string_bytes n.text.value) };
+
+    ghost use Rattle.lt_types.specs.Lexical.{is_name};
+
+    ghost invariant = { λ n. is_name (chars (string_bytes n.text.value)) ≡ true };
 }
 
 impl Name {
-    /// The name that the text is, if it is one: a character that may start an identifier or an underscore,
-    /// then characters that may continue an identifier.
+    /// The name that the text is, if it is one.
     pub fn new(alloc: Global, text: &str) -> Result<Option<Name>, Memory>
         ensures { IfOk result (λ o. MatchOption o (is_name (chars text.now) ≡ false) (λ n. (n ≡ chars text.now) × (is_name n ≡ true))) }
     {
-        let mut first = true;
-        for c in text.chars() {
-            if !may_stand(first, c) {
-                return Ok(None);
-            }
-            first = false;
+        if is_name(text) {
+            Ok(Some(Name::word(alloc, text)?))
+        } else {
+            Ok(None)
         }
-        if first {
-            return Ok(None);
-        }
-        Ok(Some(Name {
+    }
+
+    /// The name that the text is; the text has to be one.
+    pub fn word(alloc: Global, text: &str) -> Result<Name, Memory>
+        requires { is_name (chars text.now) ≡ true }
+        ensures { IfOk result (λ n. n ≡ chars text.now) }
+    {
+        Ok(Name {
             text: Rc::new(alloc, String::from_str(alloc, text)?)?,
-        }))
+        })
     }
 
     /// The name's characters.
     pub fn text(&self) -> &str
-        ensures { chars result.now ≡ self.now }
+        ensures same { chars result.now ≡ self.now }
+        ensures name { is_name self.now ≡ true }
     {
         self.text.as_ref().as_str()
     }
+}
+
+/// Whether the text is a name: a character that may start an identifier or an underscore,
+/// then characters that may continue an identifier.
+pub fn is_name(text: &str) -> bool
+    ensures { result ≡ is_name (chars text.now) }
+{
+    let mut first = true;
+    for c in text.chars() {
+        if !may_stand(first, c) {
+            return false;
+        }
+        first = false;
+    }
+    !first
 }
 
 impl TryCopy for Name {
