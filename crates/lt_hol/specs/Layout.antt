@@ -1,7 +1,8 @@
 -- How a term lies in a vector: its nodes, children before parents and from the left.
-use Rattle.std.specs.Prelude.{◌≡◌, ℕ, ◌+◌, List, [], ◌∷◌, ◌++◌}
+use Rattle.std.specs.Prelude.{◌≡◌, ℕ, ◌+◌, List, [], ◌∷◌, ◌++◌, ◌≤◌, length}
 use Rattle.lt_hol.specs.declared.term.TermNode.{TermNode}
 use Rattle.lt_hol.specs.declared.term.TermNode.TheVariants.{Free, Bound, Const, App, Lam}
+use Rattle.lt_definitions.specs.Types.{Chars, TypeTree}
 use Rattle.lt_definitions.specs.Terms.{TermTree, free_variable, bound_name, constant, application, abstraction}
 
 -- how many nodes lie below the root, and how many in all
@@ -24,23 +25,34 @@ term_nodes from (application f a) =
     term_nodes from f ++ (term_nodes (from + (under f + 1)) a ++ App (from + under f) (from + (under f + 1) + under a) ∷ [])
 term_nodes from (abstraction x t b) = term_nodes from b ++ Lam x t (from + under b) ∷ []
 
+-- The last two of some terms, the last one first, become an application; the last one becomes an abstraction.
+abbrev pub applied : List TermTree → List TermTree
+applied (a ∷ f ∷ before) = application f a ∷ before
+applied _ = []
+
+abbrev pub abstracted : Chars → TypeTree → List TermTree → List TermTree
+abstracted x ty (b ∷ before) = abstraction x ty b ∷ before
+abstracted x ty [] = []
+
 -- what a node makes of the terms before it, the last one first
 abbrev pub grow : List TermTree → TermNode → List TermTree
 grow before (Free x t) = free_variable x t ∷ before
 grow before (Bound x) = bound_name x ∷ before
 grow before (Const c ts) = constant c ts ∷ before
-grow (a ∷ f ∷ before) (App _ _) = application f a ∷ before
-grow (b ∷ before) (Lam x t _) = abstraction x t b ∷ before
-grow _ _ = []
+grow before (App _ _) = applied before
+grow before (Lam x t _) = abstracted x t before
 
 -- whether a node has its children before it
 abbrev pub HasRoom : List TermTree → TermNode → Type 0
-HasRoom before (Free x t) = Unit {0}
-HasRoom before (Bound x) = Unit {0}
-HasRoom before (Const c ts) = Unit {0}
-HasRoom (a ∷ f ∷ before) (App i j) = Unit {0}
-HasRoom (b ∷ before) (Lam x t i) = Unit {0}
-HasRoom _ _ = ⊥
+HasRoom before (App i j) = 2 ≤ length before
+HasRoom before (Lam x t i) = 1 ≤ length before
+HasRoom before _ = Unit {0}
+
+-- whether a node has no children
+abbrev pub IsLeaf : TermNode → Type 0
+IsLeaf (App i j) = ⊥
+IsLeaf (Lam x t i) = ⊥
+IsLeaf _ = Unit {0}
 
 -- the terms that nodes make, the last one first
 abbrev pub forest : List TermTree → List TermNode → List TermTree

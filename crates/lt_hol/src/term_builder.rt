@@ -1,8 +1,7 @@
 //! Terms that are made one after another, from their nodes in post-order.
 ghost use Rattle.std.specs.Prelude.{◌≡◌, ◌≤◌, [], ◌∷◌, length, IfOk};
 ghost use Rattle.lt_definitions.specs.Terms.{free_variable, bound_name, constant};
-ghost use Rattle.lt_hol.specs.Layout.{HasRoom, grow};
-ghost use Rattle.lt_hol.specs.declared.term.TermNode.TheVariants.{App, Lam};
+ghost use Rattle.lt_hol.specs.Layout.{HasRoom, IsLeaf, applied, abstracted, grow};
 
 use crate::term::{Term, TermNode};
 use lt_types::{List, Memory, Name, TryCopy, Ty};
@@ -64,7 +63,10 @@ impl TermBuilder {
     }
 
     /// One more node without children.
-    fn leaf(self, node: TermNode, tree: ()) -> Result<TermBuilder, Memory> {
+    fn leaf(self, node: TermNode) -> Result<TermBuilder, Memory>
+        requires { IsLeaf node }
+        ensures { IfOk result (λ b. b ≡ grow self node) }
+    {
         let TermBuilder {
             mut nodes,
             mut roots,
@@ -74,10 +76,31 @@ impl TermBuilder {
         Ok(TermBuilder { nodes, roots })
     }
 
+    /// One more term, a free variable.
+    pub fn free(self, _alloc: Global, name: Name, ty: Ty) -> Result<TermBuilder, Memory>
+        ensures { IfOk result (λ b. b ≡ free_variable name ty ∷ self) }
+    {
+        self.leaf(TermNode::Free(name, ty))
+    }
+
+    /// One more term, a bound name.
+    pub fn bound(self, _alloc: Global, name: Name) -> Result<TermBuilder, Memory>
+        ensures { IfOk result (λ b. b ≡ bound_name name ∷ self) }
+    {
+        self.leaf(TermNode::Bound(name))
+    }
+
+    /// One more term, a constant with its type arguments.
+    pub fn constant(self, _alloc: Global, name: Name, types: List<Ty>) -> Result<TermBuilder, Memory>
+        ensures { IfOk result (λ b. b ≡ constant name types ∷ self) }
+    {
+        self.leaf(TermNode::Const(name, types))
+    }
+
     /// The last two terms become function and argument of an application.
     pub fn app(self, _alloc: Global) -> Result<TermBuilder, Memory>
         requires { 2 ≤ length self }
-        ensures { IfOk result (λ b. b ≡ grow self (App 0 0)) }
+        ensures { IfOk result (λ b. b ≡ applied self) }
     {
         let TermBuilder {
             mut nodes,
@@ -95,7 +118,7 @@ impl TermBuilder {
     /// The last term becomes the body of an abstraction.
     pub fn lam(self, _alloc: Global, name: Name, ty: Ty) -> Result<TermBuilder, Memory>
         requires { 1 ≤ length self }
-        ensures { IfOk result (λ b. b ≡ grow self (Lam name ty 0)) }
+        ensures { IfOk result (λ b. b ≡ abstracted name ty self) }
     {
         let TermBuilder {
             mut nodes,
@@ -107,5 +130,39 @@ impl TermBuilder {
         roots.push(nodes.len())?;
         nodes.push(TermNode::Lam(name, ty, body))?;
         Ok(TermBuilder { nodes, roots })
+    }
+
+    /// What a node makes of the last terms; its places are made anew.
+    pub fn node(self, alloc: Global, node: TermNode) -> Result<TermBuilder, Memory>
+        requires { HasRoom self node }
+        ensures { IfOk result (λ b. b ≡ grow self node) }
+    {
+        match node {
+            TermNode::Free(name, ty) => self.free(alloc, name, ty),
+            TermNode::Bound(name) => self.bound(alloc, name),
+            TermNode::Const(name, types) => self.constant(alloc, name, types),
+            TermNode::App(_, _) => self.app(alloc),
+            TermNode::Lam(name, ty, _) => self.lam(alloc, name, ty),
+        }
+    }
+
+    /// One more term, equal to `term`.
+    pub fn term(self, alloc: Global, term: &Term) -> Result<TermBuilder, Memory>
+        ensures { IfOk result (λ b. b ≡ term.now ∷ self) }
+    {
+        let mut builder = self;
+        for node in term.nodes() {
+            builder = builder.node(alloc, node.copy(alloc)?)?;
+        }
+        Ok(builder)
+    }
+
+    /// The one term that was made.
+    pub fn finish(self) -> Term
+        requires { length self ≡ 1 }
+        ensures { self ≡ result ∷ [] }
+    {
+        let TermBuilder { nodes, roots: _ } = self;
+        Term::from_nodes(nodes)
     }
 }

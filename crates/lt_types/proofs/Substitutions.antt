@@ -18,7 +18,7 @@ pub inserted : (x : Chars) (t : TypeTree) (es : TypeMap) → insert_entry (point
 inserted x t [] = refl
 inserted x t (e ∷ es) = ap (λ later. if same_name x e.0 then (e.0, t) ∷ es else e ∷ later) (inserted x t es)
 
-row-map : (m : TypeMap) (ts : List TypeTree) → row (map (type_instance m) ts) ≡ types_instance m (row ts)
+pub row-map : (m : TypeMap) (ts : List TypeTree) → row (map (type_instance m) ts) ≡ types_instance m (row ts)
 row-map m [] = refl
 row-map m (t ∷ ts) = ap (type_and (type_instance m t)) (row-map m ts)
 

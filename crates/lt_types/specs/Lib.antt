@@ -3,3 +3,4 @@ pub mod Lexical
 pub mod Layout
 pub mod Maps
 pub mod Equality
+pub mod Matching

@@ -1,7 +1,9 @@
 //! Names, lists and the types of higher-order logic.
 #![tactic(auto)]
 
+mod built_in;
 mod list;
+mod matching;
 mod memory;
 mod name;
 mod substitute;
@@ -10,6 +12,7 @@ mod ty_builder;
 mod ty_map;
 
 pub use list::{List, TryCopy};
+pub use matching::match_type;
 pub use memory::Memory;
 pub use name::{Name, is_name};
 pub use substitute::tsub;
@@ -25,3 +28,6 @@ pub type Names = List<Name>;
 
 /// A list of types.
 pub type Tys = List<Ty>;
+
+#[cfg(test)]
+mod tests;

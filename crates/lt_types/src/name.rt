@@ -1,5 +1,5 @@
 //! Names, as texts that their copies share.
-ghost use Rattle.std.specs.Prelude.{◌≡◌, IfOk, MatchOption, nat_eq, true, false};
+ghost use Rattle.std.specs.Prelude.{◌≡◌, length, IfOk, MatchOption, nat_eq, true, false};
 ghost use Rattle.std.specs.Str.{chars, encode_utf8_all};
 ghost use Rattle.std.specs.Cmp.{partial_equiv_from_equiv, partial_order_from_own_ties};
 ghost use Rattle.std.specs.Cmp.Lexicographic.{pointwise, slice_cmp};
@@ -61,6 +61,13 @@ impl Name {
         Ok(Name {
             text: Rc::new(alloc, String::from_str(alloc, text)?)?,
         })
+    }
+
+    /// How many characters the name has.
+    pub fn len(&self) -> usize
+        ensures { result ≡ length self.now }
+    {
+        self.text().chars().count()
     }
 
     /// The name's characters.
