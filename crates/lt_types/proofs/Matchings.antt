@@ -134,7 +134,7 @@ firsts-domain pattern ty pairs h = firsts-names [] pairs ∙ ap (names_joined []
 pub firsts-match : (pattern ty : TypeTree) (pairs : TypeMap) (m : TypeMap) → AreOccurrences pattern ty pairs → type_instance m pattern ≡ ty → type_instance (firsts_behind [] pairs) pattern ≡ ty
 firsts-match pattern ty pairs m h e = same-instance (firsts_behind [] pairs) m pattern (λ a k.
     ap (λ (o : Option TypeTree). unwrap_or o (type_variable a)) (agree-found (λ x. type_instance m (type_variable x)) a (firsts_behind [] pairs) (agree-firsts (λ x. type_instance m (type_variable x)) [] pairs refl (h.types m e))
-      (found-has a (firsts_behind [] pairs) ∙ ap (has_name a) (firsts-names [] pairs ∙ ap (names_joined []) h.names) ∙ joined-adds a [] (type_names pattern) k))) ∙ e
+    (found-has a (firsts_behind [] pairs) ∙ ap (has_name a) (firsts-names [] pairs ∙ ap (names_joined []) h.names) ∙ joined-adds a [] (type_names pattern) k))) ∙ e
 
 -- ---- the first pair of each name, one after another
 
@@ -142,14 +142,14 @@ one_more : (ps : TypeMap) (i : ℕ) (p : Chars × TypeTree) → i < length ps �
 one_more ps i p h e = drop-cons ps i p h ∙ ap (λ q. q ∷ drop (suc i) ps) (sym e) ∙ ap (λ k. p ∷ drop k ps) (sym (add-one i))
 
 pub firsts-new : (done ps next : TypeMap) (i : ℕ) (p : Chars × TypeTree) → i < length ps → p ≡ get_or ps i p → is_some (found p.0 done) ≡ false → next ≡ with_pair p.0 p.1 done
-  → firsts_behind done (drop i ps) ≡ firsts_behind next (drop (i + 1) ps)
+    → firsts_behind done (drop i ps) ≡ firsts_behind next (drop (i + 1) ps)
 firsts-new done ps next i p h e a n =
     ap (firsts_behind done) (one_more ps i p h e)
     ∙ ap (λ (c : Bool). firsts_behind (if c then done else done ++ p ∷ []) (drop (i + 1) ps)) a
     ∙ ap (λ (d : TypeMap). firsts_behind d (drop (i + 1) ps)) (sym (with_pair-new p.0 p.1 done a) ∙ sym n)
 
 pub firsts-old : (done ps : TypeMap) (i : ℕ) (p : Chars × TypeTree) → i < length ps → p ≡ get_or ps i p → is_some (found p.0 done) ≡ true
-  → firsts_behind done (drop i ps) ≡ firsts_behind done (drop (i + 1) ps)
+    → firsts_behind done (drop i ps) ≡ firsts_behind done (drop (i + 1) ps)
 firsts-old done ps i p h e a =
     ap (firsts_behind done) (one_more ps i p h e) ∙ ap (λ (c : Bool). firsts_behind (if c then done else done ++ p ∷ []) (drop (i + 1) ps)) a
 
@@ -202,7 +202,7 @@ arguments_of (type_variable x) = no_types
 arguments_of (type_constructor c ts) = ts
 
 pub left-con : (pattern ty : TypeTree) (before tbefore : List TypeTree) (c : Chars) (ids : List ℕ) (k : TyNode) (pairs : TypeMap) → HasRoom before (Con c ids)
-  → IsLeft pattern ty (grow before (Con c ids)) (grow tbefore k) pairs → IsLeft pattern ty before tbefore pairs
+    → IsLeft pattern ty (grow before (Con c ids)) (grow tbefore k) pairs → IsLeft pattern ty before tbefore pairs
 left-con pattern ty before tbefore c ids k pairs r h = record {
   names = ap (λ ns. ns ++ map (λ p. p.0) pairs) (sym (names-append kept (type_constructor c (row args) ∷ []) ∙ ap (λ ns. types_names (row kept) ++ ns) (append-nil (types_names (row args))) ∙ sym (names-append kept args) ∙ ap (λ ts. types_names (row ts)) (take-append-drop (length before - length ids) before))) ∙ h.names;
   types = λ m e. (by m k (sym (map-append (type_instance m) kept (type_constructor c (row args) ∷ [])) ∙ (h.types m e).0), (h.types m e).1);
@@ -247,19 +247,19 @@ forest-room ty i n lt e = step (type_nodes 0 ty) ty i n refl lt e
 
 -- the node before a place of the pattern
 opened : (pattern ty : TypeTree) (at j : ℕ) (n : TyNode) (ts : List TypeTree) (pairs : TypeMap) → at ≡ j + 1 → j < length (type_nodes 0 pattern) → n ≡ get_or (type_nodes 0 pattern) j n
-  → IsLeft pattern ty (forest [] (take at (type_nodes 0 pattern))) ts pairs → IsLeft pattern ty (grow (forest [] (take j (type_nodes 0 pattern))) n) ts pairs
+    → IsLeft pattern ty (forest [] (take at (type_nodes 0 pattern))) ts pairs → IsLeft pattern ty (grow (forest [] (take j (type_nodes 0 pattern))) n) ts pairs
 opened pattern ty at j n ts pairs e lt is h =
     subst (λ (ps : List TypeTree). IsLeft pattern ty ps ts pairs) (ap (λ i. forest [] (take i (type_nodes 0 pattern))) e ∙ (forest-room pattern j n lt is).next) h
 
 pub past-none : (pattern ty : TypeTree) (at j end : ℕ) (n : TyNode) (pairs : TypeMap) → at ≡ j + 1 → j < length (type_nodes 0 pattern) → n ≡ get_or (type_nodes 0 pattern) j n → end ≡ 0
-  → IsLeft pattern ty (forest [] (take at (type_nodes 0 pattern))) (forest [] (take end (type_nodes 0 ty))) pairs → (m : TypeMap) → type_instance m pattern ≡ ty → ⊥
+    → IsLeft pattern ty (forest [] (take at (type_nodes 0 pattern))) (forest [] (take end (type_nodes 0 ty))) pairs → (m : TypeMap) → type_instance m pattern ≡ ty → ⊥
 past-none pattern ty at j end n pairs e lt is z h =
     left-none pattern ty (forest [] (take j (type_nodes 0 pattern))) (forest [] (take end (type_nodes 0 ty))) n pairs (ap (λ i. forest [] (take i (type_nodes 0 ty))) z) (opened pattern ty at j n (forest [] (take end (type_nodes 0 ty))) pairs e lt is h)
 
 pub past-var : (pattern ty : TypeTree) (at j end start : ℕ) (x : Chars) (last : TypeTree) (n : TyNode) (pairs : TypeMap) → at ≡ j + 1 → j < length (type_nodes 0 pattern) → n ≡ get_or (type_nodes 0 pattern) j n → n ≡ Var x
-  → forest [] (take end (type_nodes 0 ty)) ≡ forest [] (take start (type_nodes 0 ty)) ++ last ∷ []
-  → IsLeft pattern ty (forest [] (take at (type_nodes 0 pattern))) (forest [] (take end (type_nodes 0 ty))) pairs
-  → IsLeft pattern ty (forest [] (take j (type_nodes 0 pattern))) (forest [] (take start (type_nodes 0 ty))) ((x, last) ∷ pairs)
+    → forest [] (take end (type_nodes 0 ty)) ≡ forest [] (take start (type_nodes 0 ty)) ++ last ∷ []
+    → IsLeft pattern ty (forest [] (take at (type_nodes 0 pattern))) (forest [] (take end (type_nodes 0 ty))) pairs
+    → IsLeft pattern ty (forest [] (take j (type_nodes 0 pattern))) (forest [] (take start (type_nodes 0 ty))) ((x, last) ∷ pairs)
 past-var pattern ty at j end start x last n pairs e lt is v split h =
     let o : IsLeft pattern ty (grow (forest [] (take j (type_nodes 0 pattern))) n) (forest [] (take end (type_nodes 0 ty))) pairs = opened pattern ty at j n (forest [] (take end (type_nodes 0 ty))) pairs e lt is h in
     let p : IsLeft pattern ty (grow (forest [] (take j (type_nodes 0 pattern))) (Var x)) (forest [] (take end (type_nodes 0 ty))) pairs = subst (λ (k : TyNode). IsLeft pattern ty (grow (forest [] (take j (type_nodes 0 pattern))) k) (forest [] (take end (type_nodes 0 ty))) pairs) v o in
@@ -267,9 +267,9 @@ past-var pattern ty at j end start x last n pairs e lt is v split h =
     (subst (λ (ts : List TypeTree). IsLeft pattern ty (grow (forest [] (take j (type_nodes 0 pattern))) (Var x)) ts pairs) split p)
 
 pub past-con : (pattern ty : TypeTree) (at j end k : ℕ) (c : Chars) (ids : List ℕ) (n : TyNode) (pairs : TypeMap) → at ≡ j + 1 → j < length (type_nodes 0 pattern) → n ≡ get_or (type_nodes 0 pattern) j n → n ≡ Con c ids
-  → end ≡ k + 1 → k < length (type_nodes 0 ty)
-  → IsLeft pattern ty (forest [] (take at (type_nodes 0 pattern))) (forest [] (take end (type_nodes 0 ty))) pairs
-  → IsLeft pattern ty (forest [] (take j (type_nodes 0 pattern))) (forest [] (take k (type_nodes 0 ty))) pairs
+    → end ≡ k + 1 → k < length (type_nodes 0 ty)
+    → IsLeft pattern ty (forest [] (take at (type_nodes 0 pattern))) (forest [] (take end (type_nodes 0 ty))) pairs
+    → IsLeft pattern ty (forest [] (take j (type_nodes 0 pattern))) (forest [] (take k (type_nodes 0 ty))) pairs
 past-con pattern ty at j end k c ids n pairs e lt is v f ft h =
     let before : List TypeTree = forest [] (take j (type_nodes 0 pattern)) in
     let o : IsLeft pattern ty (grow before n) (forest [] (take end (type_nodes 0 ty))) pairs = opened pattern ty at j n (forest [] (take end (type_nodes 0 ty))) pairs e lt is h in
@@ -304,14 +304,14 @@ sought-init nodes end = record {
 
 -- one node further to the left
 sought-count : (ty : TypeTree) (end at j missing : ℕ) (n : TyNode) → at ≡ j + 1 → j < length (type_nodes 0 ty) → n ≡ get_or (type_nodes 0 ty) j n → IsSought (type_nodes 0 ty) end at missing
-  → length (forest [] (take j (type_nodes 0 ty))) + 1 ≡ length (forest [] (take end (type_nodes 0 ty))) + ((missing - 1) + arguments n)
+    → length (forest [] (take j (type_nodes 0 ty))) + 1 ≡ length (forest [] (take end (type_nodes 0 ty))) + ((missing - 1) + arguments n)
 sought-count ty end at j missing n e lt is h =
     let s : IsStep (type_nodes 0 ty) j n = forest-room ty j n lt is in
     let k : length (forest [] (take (j + 1) (type_nodes 0 ty))) + arguments n ≡ suc (length (forest [] (take j (type_nodes 0 ty)))) = ap (λ ts. length ts + arguments n) s.next ∙ length-grow (forest [] (take j (type_nodes 0 ty))) n s.room in
     omega (arith, k, h.count, h.some, ap (λ i. length (forest [] (take i (type_nodes 0 ty)))) e)
 
 pub sought-next : (ty : TypeTree) (end at j missing : ℕ) (n : TyNode) → at ≡ j + 1 → j < length (type_nodes 0 ty) → n ≡ get_or (type_nodes 0 ty) j n → 1 ≤ (missing - 1) + arguments n
-  → IsSought (type_nodes 0 ty) end at missing → IsSought (type_nodes 0 ty) end j ((missing - 1) + arguments n)
+    → IsSought (type_nodes 0 ty) end at missing → IsSought (type_nodes 0 ty) end j ((missing - 1) + arguments n)
 sought-next ty end at j missing n e lt is more h = record {
   some = more;
   count = sought-count ty end at j missing n e lt is h;
@@ -325,7 +325,7 @@ sought-next ty end at j missing n e lt is more h = record {
     at-or-above k up = elim (cases_lt j k) [ inl h ↦ inr h | inr h ↦ inl (omega arith) ]
 
 pub sought-found : (ty : TypeTree) (end at j missing : ℕ) (n : TyNode) → at ≡ j + 1 → at ≤ end → j < length (type_nodes 0 ty) → n ≡ get_or (type_nodes 0 ty) j n → (missing - 1) + arguments n ≡ 0
-  → IsSought (type_nodes 0 ty) end at missing → BeginsAt (type_nodes 0 ty) end j
+    → IsSought (type_nodes 0 ty) end at missing → BeginsAt (type_nodes 0 ty) end j
 sought-found ty end at j missing n e up lt is none h = record {
   before = omega (arith, e);
   one = omega (arith, sought-count ty end at j missing n e lt is h, none);

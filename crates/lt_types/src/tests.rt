@@ -1,5 +1,8 @@
 //! Each call once, with values from outside.
-use crate::{List, Memory, Name, Names, TryCopy, Ty, TyBuilder, TyMap, TyNode, Tys, is_name, match_type, tsub};
+use crate::{
+    List, Memory, Name, Names, TryCopy, Ty, TyBuilder, TyMap, TyNode, Tys, is_name, match_type,
+    tsub,
+};
 use std::alloc::Global;
 use std::cmp::Ordering;
 use std::test::Fail;
@@ -138,7 +141,11 @@ fn substitution_is_simultaneous(rt: HostRuntime) -> Result<(), Fail> {
 fn a_pattern_matches_by_one_map(rt: HostRuntime) -> Result<(), Fail> {
     let alloc = rt.alloc();
     let (a, b) = (variable(alloc, "a")?, variable(alloc, "b")?);
-    let pattern = Ty::fun(alloc, pair(alloc, b.copy(alloc)?, a.copy(alloc)?)?, b.copy(alloc)?)?;
+    let pattern = Ty::fun(
+        alloc,
+        pair(alloc, b.copy(alloc)?, a.copy(alloc)?)?,
+        b.copy(alloc)?,
+    )?;
     let bool = Ty::bool(alloc)?;
     let of_lists = chain(alloc, "c", 2)?;
     let left = pair(alloc, bool.copy(alloc)?, of_lists.copy(alloc)?)?;
@@ -147,7 +154,11 @@ fn a_pattern_matches_by_one_map(rt: HostRuntime) -> Result<(), Fail> {
     assert!(rt; map.get(&name(alloc, "b")?) == Some(&bool));
     assert!(rt; map.get(&name(alloc, "a")?) == Some(&of_lists));
     assert!(rt; match_type(alloc, &pattern, &pattern)?.is_some());
-    let two = Ty::fun(alloc, pair(alloc, bool.copy(alloc)?, bool.copy(alloc)?)?, of_lists)?;
+    let two = Ty::fun(
+        alloc,
+        pair(alloc, bool.copy(alloc)?, bool.copy(alloc)?)?,
+        of_lists,
+    )?;
     assert!(rt; match_type(alloc, &pattern, &two)?.is_none());
     assert!(rt; match_type(alloc, &pattern, &bool)?.is_none());
     Ok(())

@@ -36,16 +36,18 @@ loop-at-preserved-in-Var c =
     let lt : c.loop-at.at - 1 < length (type_nodes 0 c.args.pattern.now) = omega (arith, c.loop-at-test.true, c.loop-at.auto.at, ap length c.nodes-nodes.ensures) in
     let is : c.index-nodes-at.result ≡ get_or (type_nodes 0 c.args.pattern.now) (c.loop-at.at - 1) c.index-nodes-at.result = c.index-nodes-at.is ∙ ap (λ ns. get_or ns (c.loop-at.at - 1) c.index-nodes-at.result) c.nodes-nodes.ensures in
     let pairs : reverse c.push.new.self.items ≡ (c.in-Var.name, c.in_ok-part-in-Var.field-0) ∷ reverse c.loop-at.pairs.items =
-    ap reverse (c.in_ok-push-in-Var.ensures.items ∙ (λ i. c.loop-at.pairs.items ++ (c.in_ok-copy-in-Var.ensures i, c.in_ok-part-in-Var.field-0) ∷ [])) ∙ reverse-append c.loop-at.pairs.items ((c.in-Var.name, c.in_ok-part-in-Var.field-0) ∷ []) in
-    (subst (λ (qs : TypeMap). IsLeft c.args.pattern.now c.args.ty.now (forest [] (take (c.loop-at.at - 1) (type_nodes 0 c.args.pattern.now))) (forest [] (take c.start_of-start.result (type_nodes 0 c.args.ty.now))) qs) (sym pairs)
-      (past-var c.args.pattern.now c.args.ty.now c.loop-at.at (c.loop-at.at - 1) c.loop-at.end c.start_of-start.result c.in-Var.name c.in_ok-part-in-Var.field-0 c.index-nodes-at.result _ e lt is c.in-Var.is c.in_ok-part-in-Var.ensures c.loop-at.invariant.0),
-     omega (arith, c.start_of-start.ensures.before, c.loop-at.invariant.1))
+    ap reverse (c.in_ok-push-in-Var.ensures.items ∙ (λ i. c.loop-at.pairs.items ++ (c.in_ok-copy-in-Var.ensures i, c.in_ok-part-in-Var.field-0) ∷ [])) ∙ reverse-append c.loop-at.pairs.items ((c.in-Var.name, c.in_ok-part-in-Var.field-0) ∷ []) in (
+      subst (λ (qs : TypeMap). IsLeft c.args.pattern.now c.args.ty.now (forest [] (take (c.loop-at.at - 1) (type_nodes 0 c.args.pattern.now))) (forest [] (take c.start_of-start.result (type_nodes 0 c.args.ty.now))) qs) (sym pairs)
+          (past-var c.args.pattern.now c.args.ty.now c.loop-at.at (c.loop-at.at - 1) c.loop-at.end c.start_of-start.result c.in-Var.name c.in_ok-part-in-Var.field-0 c.index-nodes-at.result _ e lt is c.in-Var.is c.in_ok-part-in-Var.ensures c.loop-at.invariant.0),
+      omega (arith, c.start_of-start.ensures.before, c.loop-at.invariant.1),
+    )
 
 pub loop-at-preserved : goal.loop-at-preserved
 loop-at-preserved c =
     let e : c.loop-at.at ≡ (c.loop-at.at - 1) + 1 = omega (arith, c.loop-at-test.true) in
     let lt : c.loop-at.at - 1 < length (type_nodes 0 c.args.pattern.now) = omega (arith, c.loop-at-test.true, c.loop-at.auto.at, ap length c.nodes-nodes.ensures) in
     let is : c.index-nodes-at.result ≡ get_or (type_nodes 0 c.args.pattern.now) (c.loop-at.at - 1) c.index-nodes-at.result = c.index-nodes-at.is ∙ ap (λ ns. get_or ns (c.loop-at.at - 1) c.index-nodes-at.result) c.nodes-nodes.ensures in
-    let f : c.loop-at.end ≡ (c.loop-at.end - 1) + 1 = omega (arith, c.if-end-eq0.false) in
-    (past-con c.args.pattern.now c.args.ty.now c.loop-at.at (c.loop-at.at - 1) c.loop-at.end (c.loop-at.end - 1) c.in-Con.field-0 c.in-Con.field-1 c.index-nodes-at.result _ e lt is c.in-Con.is f (omega (arith, c.loop-at.invariant.1, f)) c.loop-at.invariant.0,
-     omega (arith, c.loop-at.invariant.1))
+    let f : c.loop-at.end ≡ (c.loop-at.end - 1) + 1 = omega (arith, c.if-end-eq0.false) in (
+      past-con c.args.pattern.now c.args.ty.now c.loop-at.at (c.loop-at.at - 1) c.loop-at.end (c.loop-at.end - 1) c.in-Con.field-0 c.in-Con.field-1 c.index-nodes-at.result _ e lt is c.in-Con.is f (omega (arith, c.loop-at.invariant.1, f)) c.loop-at.invariant.0,
+      omega (arith, c.loop-at.invariant.1),
+    )

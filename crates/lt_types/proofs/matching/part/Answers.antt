@@ -54,5 +54,5 @@ pub returns : goal.returns
 returns c =
     let e : c.loop-at.at ≡ c.args.end = omega (arith, c.loop-at-test.false, c.loop-at.auto.at-end, c.requires.begins.before) in
     IfOk-weaker c.finish.result _ _ (λ t f.
-        ap (λ i. forest [] (take i (type_nodes 0 c.args.ty.now))) (sym e) ∙ c.loop-at.invariant ∙ ap (λ (b : List TypeTree). forest [] (take c.args.start (type_nodes 0 c.args.ty.now)) ++ b) f)
+    ap (λ i. forest [] (take i (type_nodes 0 c.args.ty.now))) (sym e) ∙ c.loop-at.invariant ∙ ap (λ (b : List TypeTree). forest [] (take c.args.start (type_nodes 0 c.args.ty.now)) ++ b) f)
     c.finish.ensures

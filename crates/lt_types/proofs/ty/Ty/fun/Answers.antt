@@ -9,4 +9,4 @@ word-requires c = fun-word
 pub returns : goal.returns
 returns c =
     c.in_ok-con.ensures ∙ (λ i. type_constructor ((c.in_ok-word.ensures ∙ fun-chars) i)
-        (row ((c.in_ok-push-2.ensures.ok ∙ ap (λ (ts : List TypeTree). ts ++ c.args.to ∷ []) (c.in_ok-push.ensures.ok ∙ ap (λ (ts : List TypeTree). ts ++ c.args.from ∷ []) c.new-args.ensures)) i)))
+    (row ((c.in_ok-push-2.ensures.ok ∙ ap (λ (ts : List TypeTree). ts ++ c.args.to ∷ []) (c.in_ok-push.ensures.ok ∙ ap (λ (ts : List TypeTree). ts ++ c.args.from ∷ []) c.new-args.ensures)) i)))
