@@ -1,0 +1,7 @@
+pub mod Nodes
+pub mod Stacks
+pub mod Lookups
+pub mod TypeFaults
+pub mod Places
+pub mod Replacing
+pub mod Longest

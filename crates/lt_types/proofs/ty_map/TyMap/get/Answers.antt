@@ -1,0 +1,7 @@
+use Rattle.std.proofs.Common.{◌∙◌, ap}
+use Rattle.lt_definitions.specs.Types.{found}
+use Rattle.lt_types.proofs.Substitutions.{looked_up}
+use Rattle.lt_types.proofs.ty_map.TyMap.get.Goals as goal
+
+pub returns : goal.returns
+returns c = c.get.ensures.value ∙ looked_up c.args.name.now c.self.inside.pairs.entries ∙ ap (found c.args.name.now) c.self.view_is
