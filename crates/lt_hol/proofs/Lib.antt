@@ -3,5 +3,4 @@ pub mod Stacks
 pub mod Lookups
 pub mod TypeFaults
 pub mod Places
-pub mod Replacing
-pub mod Longest
+pub mod Replacements

@@ -1,7 +1,8 @@
 -- Lines whose terms are places among nodes.
-use Rattle.std.proofs.Common.{◌≡◌, ℕ, suc, ◌+◌, ◌<◌, ◌≤◌, List, [], ◌∷◌, ◌++◌, length, map, get_or, Bool, true, false, ◌&&◌, nat_lt, refl, sym, ◌∙◌, ap, arith, length-append}
+use Rattle.std.proofs.Common.{◌≡◌, ℕ, suc, ◌+◌, ◌<◌, ◌≤◌, List, [], ◌∷◌, ◌++◌, length, map, get_or, Bool, true, false, ◌&&◌, nat_lt, refl, sym, ◌∙◌, ap, subst, arith, length-append, Result, Ok, Err, OnOk, OnErr}
 use Rattle.std.specs.List.{list_all}
 use Rattle.std.proofs.Math.ListN.{get_or-append}
+use Rattle.std.proofs.lemmas.Bool.{ltb-true, lt-ltb}
 use Rattle.lt_definitions.proofs.Tests.{both-true, true-both}
 use Rattle.lt_definitions.specs.Terms.{TermTree, bound_name}
 use Rattle.lt_definitions.specs.Rules as rules
@@ -28,7 +29,7 @@ behind-append ts (n ∷ xs) ys = behind-append (ts ++ tree_of ts n ∷ []) xs ys
 
 -- a place of a list is that of a longer one
 at-front : (ts us : List TermTree) (k p : ℕ) → k ≡ length ts → nat_lt p k ≡ true → get_or (ts ++ us) p (bound_name []) ≡ get_or ts p (bound_name [])
-at-front ts us k p e h = get_or-append ts us (bound_name []) p (omega (arith, e, h))
+at-front ts us k p e h = get_or-append ts us (bound_name []) p (omega (arith, e, ltb-true p k h))
 
 rule-more : (ts us : List TermTree) (k : ℕ) (l : Line) → k ≡ length ts → is_within k l ≡ true → rule_of (ts ++ us) l ≡ rule_of ts l
 rule-more ts us k (Assume p) e h = ap rules.by_assume (at-front ts us k p e h)
@@ -65,7 +66,7 @@ rules-stay ns n ls h =
     ∙ rules-more (trees ns) (tree_of (trees ns) n ∷ []) (length ns) ls (sym (length-behind [] ns ∙ omega arith)) h
 
 later : (k p : ℕ) → nat_lt p k ≡ true → nat_lt p (suc k) ≡ true
-later k p h = omega (arith, h)
+later k p h = let below : p < k = ltb-true p k h in lt-ltb p (suc k) (omega (arith, below))
 
 within-more : (k : ℕ) (l : Line) → is_within k l ≡ true → is_within (suc k) l ≡ true
 within-more k (Assume p) h = later k p h
@@ -108,3 +109,8 @@ within-line k (m ∷ ls) l h e =
 pub rules-line : (ts : List TermTree) (ls : List Line) (l : Line) → map (rule_of ts) (ls ++ l ∷ []) ≡ map (rule_of ts) ls ++ rule_of ts l ∷ []
 rules-line ts [] l = refl
 rules-line ts (m ∷ ls) l = ap (λ rs. rule_of ts m ∷ rs) (rules-line ts ls l)
+
+-- a push that may want memory
+pub grown : {E : Type 0} (r : Result (Unit {0}) E) (P : List TermNode → Type 0) (old new : List TermNode) (n : TermNode) → OnOk r (new ≡ old ++ n ∷ []) → OnErr r (new ≡ old) → P old → P (old ++ n ∷ []) → P new
+grown (Ok _) P old new n ok err p q = subst P (sym ok) q
+grown (Err _) P old new n ok err p q = subst P (sym err) p

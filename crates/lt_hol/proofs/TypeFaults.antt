@@ -45,7 +45,7 @@ at-start sig ty skipped later h = h.first ∙ ap (λ (ts : List TypeTree). earli
 
 -- a node within what is skipped
 pub past-skipped : (sig : Signature) (ty : TypeTree) (before : List TypeTree) (n : TyNode) (skipped : ℕ) (later : Option Fault) → HasRoom before n → 0 < skipped
-  → IsFirst sig ty (grow before n) skipped later → IsFirst sig ty before ((skipped - 1) + arguments n) later
+    → IsFirst sig ty (grow before n) skipped later → IsFirst sig ty before ((skipped - 1) + arguments n) later
 past-skipped sig ty before (Var x) skipped later r some h = record {
   first = h.first ∙ ap (λ ts. earlier (types_fault sig (row ts)) later) same;
   fits = omega (arith, h.fits, length-append before (type_variable x ∷ []), some);
@@ -75,14 +75,14 @@ past-skipped sig ty before (Con c ids) skipped later r some h = record {
     same = let e : length (kept ++ made ∷ []) - skipped ≡ length before - ((skipped - 1) + length ids) = omega (arith, count, some, r) in
         ap (λ k. take k (kept ++ made ∷ [])) e ∙ take-append-le (length before - ((skipped - 1) + length ids)) kept (made ∷ []) (omega (arith, kept_count, some))
         ∙ (let d : List TypeTree = drop (length before - length ids) before in
-          sym (take-append-le (length before - ((skipped - 1) + length ids)) kept d (omega (arith, kept_count, some))) ∙ ap (take (length before - ((skipped - 1) + length ids))) (take-append-drop (length before - length ids) before))
+        sym (take-append-le (length before - ((skipped - 1) + length ids)) kept d (omega (arith, kept_count, some))) ∙ ap (take (length before - ((skipped - 1) + length ids))) (take-append-drop (length before - length ids) before))
 
 all-kept : (trees : List TypeTree) → take (length trees - 0) trees ≡ trees
 all-kept trees = let e : length trees - 0 ≡ length trees = omega arith in ap (λ k. take k trees) e ∙ take-length trees
 
 -- the fault of a constructor that a node makes
 made-fault : (sig : Signature) (before : List TypeTree) (c : Chars) (ids : List ℕ) → length ids ≤ length before
-  → type_fault sig (type_constructor c (row (drop (length before - length ids) before))) ≡ earlier (node_fault sig (Con c ids)) (types_fault sig (row (drop (length before - length ids) before)))
+    → type_fault sig (type_constructor c (row (drop (length before - length ids) before))) ≡ earlier (node_fault sig (Con c ids)) (types_fault sig (row (drop (length before - length ids) before)))
 made-fault sig before c ids r =
     let args : List TypeTree = drop (length before - length ids) before in
     let count : length (listed (row args)) ≡ length ids = ap length (listed-row args) ∙ length-drop (length before - length ids) before ∙ omega (arith, r) in
@@ -90,7 +90,7 @@ made-fault sig before c ids r =
 
 -- the faults of the types after a node, by those before it
 grown-fault : (sig : Signature) (before : List TypeTree) (c : Chars) (ids : List ℕ) → length ids ≤ length before
-  → types_fault sig (row (grow before (Con c ids))) ≡ earlier (types_fault sig (row (take (length before - length ids) before))) (earlier (node_fault sig (Con c ids)) (types_fault sig (row (drop (length before - length ids) before))))
+    → types_fault sig (row (grow before (Con c ids))) ≡ earlier (types_fault sig (row (take (length before - length ids) before))) (earlier (node_fault sig (Con c ids)) (types_fault sig (row (drop (length before - length ids) before))))
 grown-fault sig before c ids r =
     types-append sig (take (length before - length ids) before) (type_constructor c (row (drop (length before - length ids) before)) ∷ [])
     ∙ ap (earlier (types_fault sig (row (take (length before - length ids) before)))) (one (type_fault sig (type_constructor c (row (drop (length before - length ids) before)))) ∙ made-fault sig before c ids r)
@@ -101,7 +101,7 @@ grown-fault sig before c ids r =
 
 -- a node that is right
 pub past-right : (sig : Signature) (ty : TypeTree) (before : List TypeTree) (n : TyNode) (later : Option Fault) → HasRoom before n → node_fault sig n ≡ None
-  → IsFirst sig ty (grow before n) 0 later → IsFirst sig ty before 0 later
+    → IsFirst sig ty (grow before n) 0 later → IsFirst sig ty before 0 later
 past-right sig ty before (Var x) later r ok h = record {
   first = h.first ∙ ap (λ ts. earlier (types_fault sig (row ts)) later) (all-kept (before ++ type_variable x ∷ []))
       ∙ ap (λ f. earlier f later) (types-append sig before (type_variable x ∷ []) ∙ one (types_fault sig (row before)))
@@ -115,16 +115,16 @@ past-right sig ty before (Var x) later r ok h = record {
 past-right sig ty before (Con c ids) later r ok h = record {
   first = h.first ∙ ap (λ ts. earlier (types_fault sig (row ts)) later) (all-kept (grow before (Con c ids)))
       ∙ ap (λ f. earlier f later) (grown-fault sig before c ids r
-        ∙ ap (λ f. earlier (types_fault sig (row (take (length before - length ids) before))) (earlier f (types_fault sig (row (drop (length before - length ids) before))))) ok
-        ∙ sym (types-append sig (take (length before - length ids) before) (drop (length before - length ids) before))
-        ∙ ap (λ ts. types_fault sig (row ts)) (take-append-drop (length before - length ids) before))
+      ∙ ap (λ f. earlier (types_fault sig (row (take (length before - length ids) before))) (earlier f (types_fault sig (row (drop (length before - length ids) before))))) ok
+      ∙ sym (types-append sig (take (length before - length ids) before) (drop (length before - length ids) before))
+      ∙ ap (λ ts. types_fault sig (row ts)) (take-append-drop (length before - length ids) before))
       ∙ ap (λ ts. earlier (types_fault sig (row ts)) later) (sym (all-kept before));
   fits = omega arith;
 }
 
 -- a node that is wrong
 pub past-wrong : (sig : Signature) (ty : TypeTree) (before : List TypeTree) (n : TyNode) (later : Option Fault) → HasRoom before n → is_some (node_fault sig n) ≡ true
-  → IsFirst sig ty (grow before n) 0 later → IsFirst sig ty before (arguments n) (node_fault sig n)
+    → IsFirst sig ty (grow before n) 0 later → IsFirst sig ty before (arguments n) (node_fault sig n)
 past-wrong sig ty before (Var x) later r bad h = absurd (cc)
 past-wrong sig ty before (Con c ids) later r bad h = record {
   first = h.first ∙ ap (λ ts. earlier (types_fault sig (row ts)) later) (all-kept (grow before (Con c ids)))
@@ -141,7 +141,7 @@ past-wrong sig ty before (Con c ids) later r bad h = record {
 -- ---- at a place
 
 pub opened : (sig : Signature) (ty : TypeTree) (nodes : List TyNode) (at j : ℕ) (n : TyNode) (skipped : ℕ) (later : Option Fault) → nodes ≡ type_nodes 0 ty → at ≡ j + 1 → j < length nodes → n ≡ get_or nodes j n
-  → IsFirst sig ty (forest [] (take at nodes)) skipped later → IsFirst sig ty (grow (forest [] (take j nodes)) n) skipped later
+    → IsFirst sig ty (forest [] (take at nodes)) skipped later → IsFirst sig ty (grow (forest [] (take j nodes)) n) skipped later
 opened sig ty nodes at j n skipped later h e lt is k =
     subst (λ (ts : List TypeTree). IsFirst sig ty ts skipped later) (ap (λ i. forest [] (take i nodes)) e ∙ (step nodes ty j n h lt is).next) k
 
@@ -169,21 +169,21 @@ IsWrong sig now None = Unit {0}
 IsWrong sig now (Some b) = is_some (node_fault sig (now b)) ≡ true
 
 pub at-skipped : (sig : Signature) (ty : TypeTree) (nodes : List TyNode) (at j : ℕ) (n : TyNode) (skipped k : ℕ) (later : Option Fault) → nodes ≡ type_nodes 0 ty → at ≡ j + 1 → j < length nodes → n ≡ get_or nodes j n → 0 < skipped → k ≡ arguments n
-  → IsFirst sig ty (forest [] (take at nodes)) skipped later → IsFirst sig ty (forest [] (take j nodes)) ((skipped - 1) + k) later
+    → IsFirst sig ty (forest [] (take at nodes)) skipped later → IsFirst sig ty (forest [] (take j nodes)) ((skipped - 1) + k) later
 at-skipped sig ty nodes at j n skipped k later h e lt is some args f =
     subst (λ (m : ℕ). IsFirst sig ty (forest [] (take j nodes)) ((skipped - 1) + m) later) (sym args)
     (past-skipped sig ty (forest [] (take j nodes)) n skipped later (room ty nodes j n h lt is) some (opened sig ty nodes at j n skipped later h e lt is f))
 
 pub at-wrong : (sig : Signature) (ty : TypeTree) (nodes : List TyNode) (at j : ℕ) (n : TyNode) (skipped k : ℕ) (later : Option Fault) → nodes ≡ type_nodes 0 ty → at ≡ j + 1 → j < length nodes → n ≡ get_or nodes j n → skipped ≡ 0 → k ≡ arguments n
-  → is_some (node_fault sig n) ≡ true → IsFirst sig ty (forest [] (take at nodes)) skipped later → IsFirst sig ty (forest [] (take j nodes)) k (node_fault sig n)
+    → is_some (node_fault sig n) ≡ true → IsFirst sig ty (forest [] (take at nodes)) skipped later → IsFirst sig ty (forest [] (take j nodes)) k (node_fault sig n)
 at-wrong sig ty nodes at j n skipped k later h e lt is none args bad f =
     subst (λ (m : ℕ). IsFirst sig ty (forest [] (take j nodes)) m (node_fault sig n)) (sym args)
     (past-wrong sig ty (forest [] (take j nodes)) n later (room ty nodes j n h lt is) bad
-      (subst (λ (m : ℕ). IsFirst sig ty (grow (forest [] (take j nodes)) n) m later) none (opened sig ty nodes at j n skipped later h e lt is f)))
+    (subst (λ (m : ℕ). IsFirst sig ty (grow (forest [] (take j nodes)) n) m later) none (opened sig ty nodes at j n skipped later h e lt is f)))
 
 pub at-right : (sig : Signature) (ty : TypeTree) (nodes : List TyNode) (at j : ℕ) (n : TyNode) (skipped : ℕ) (later : Option Fault) → nodes ≡ type_nodes 0 ty → at ≡ j + 1 → j < length nodes → n ≡ get_or nodes j n → skipped ≡ 0
-  → node_fault sig n ≡ None → IsFirst sig ty (forest [] (take at nodes)) skipped later → IsFirst sig ty (forest [] (take j nodes)) skipped later
+    → node_fault sig n ≡ None → IsFirst sig ty (forest [] (take at nodes)) skipped later → IsFirst sig ty (forest [] (take j nodes)) skipped later
 at-right sig ty nodes at j n skipped later h e lt is none right f =
     subst (λ (m : ℕ). IsFirst sig ty (forest [] (take j nodes)) m later) (sym none)
     (past-right sig ty (forest [] (take j nodes)) n later (room ty nodes j n h lt is) right
-      (subst (λ (m : ℕ). IsFirst sig ty (grow (forest [] (take j nodes)) n) m later) none (opened sig ty nodes at j n skipped later h e lt is f)))
+    (subst (λ (m : ℕ). IsFirst sig ty (grow (forest [] (take j nodes)) n) m later) none (opened sig ty nodes at j n skipped later h e lt is f)))

@@ -5,4 +5,3 @@ pub mod TypeNodes
 pub mod Lines
 pub mod Items
 pub mod FreeNodes
-pub mod Binders

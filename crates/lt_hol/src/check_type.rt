@@ -6,7 +6,7 @@ ghost use Rattle.lt_hol.specs.TypeNodes.{node_fault, arguments};
 
 use crate::signature::Signature;
 use crate::type_fault::TypeFault;
-use lt_types::{Ty, TyNode, TryCopy};
+use lt_types::{TryCopy, Ty, TyNode};
 use std::alloc::Global;
 
 /// How many arguments a node has.

@@ -2,30 +2,30 @@
 #![tactic(auto)]
 
 mod check_type;
-mod close_free;
 mod form_part;
 mod item;
 mod line;
 mod lines;
 mod property;
 mod reason;
+mod replacing;
 mod signature;
-mod subst_free;
 mod term;
 mod term_builder;
 mod type_fault;
 
-pub use close_free::close_free;
 pub use form_part::{PropertyPart, QuotientPart, RelatorPart, RulePart};
 pub use item::Item;
 pub use line::Line;
 pub use lines::Lines;
-pub use lt_types::{Ids, List, Memory, Name, Names, TryCopy, Ty, TyBuilder, TyMap, TyNode, Tys};
-pub use lt_types::{is_name, match_type, tsub};
+pub use lt_types::{
+    Ids, List, Memory, Name, Names, TryCopy, Ty, TyBuilder, TyMap, TyNode, Tys, is_name,
+    match_type, tsub,
+};
 pub use property::Property;
 pub use reason::Reason;
+pub use replacing::subst_free;
 pub use signature::{SigMark, Signature};
-pub use subst_free::subst_free;
 pub use term::{Term, TermNode};
 pub use term_builder::TermBuilder;
 pub use type_fault::TypeFault;
@@ -35,3 +35,6 @@ pub type Terms = List<Term>;
 
 /// A list of items.
 pub type Items = List<Item>;
+
+#[cfg(test)]
+mod tests;

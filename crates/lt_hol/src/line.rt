@@ -48,9 +48,7 @@ impl TryCopy for Line {
             Line::AllI(x, ty, i) => Ok(Line::AllI(x.copy(alloc)?, ty.copy(alloc)?, *i)),
             Line::AllE(t, i) => Ok(Line::AllE(*t, *i)),
             Line::Iff(i, j) => Ok(Line::Iff(*i, *j)),
-            Line::Inst(x, ty, t, i) => {
-                Ok(Line::Inst(x.copy(alloc)?, ty.copy(alloc)?, *t, *i))
-            }
+            Line::Inst(x, ty, t, i) => { Ok(Line::Inst(x.copy(alloc)?, ty.copy(alloc)?, *t, *i)) }
             Line::Tinst(a, ty, i) => Ok(Line::Tinst(a.copy(alloc)?, ty.copy(alloc)?, *i)),
             Line::Select(p) => Ok(Line::Select(*p)),
             Line::Ccontr(p) => Ok(Line::Ccontr(*p)),

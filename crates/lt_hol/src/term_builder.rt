@@ -91,7 +91,12 @@ impl TermBuilder {
     }
 
     /// One more term, a constant with its type arguments.
-    pub fn constant(self, _alloc: Global, name: Name, types: List<Ty>) -> Result<TermBuilder, Memory>
+    pub fn constant(
+        self,
+        _alloc: Global,
+        name: Name,
+        types: List<Ty>,
+    ) -> Result<TermBuilder, Memory>
         ensures { IfOk result (λ b. b ≡ constant name types ∷ self) }
     {
         self.leaf(TermNode::Const(name, types))

@@ -34,9 +34,9 @@ returns c =
     let quantifier : c.in_ok-quantifier.quantifier ≡ fun (fun a bool) bool = c.in_ok-quantifier.ensures ∙ (λ i. fun ((c.in_ok-copy-8.ensures ∙ test) i) (c.in_ok-bool.ensures i)) in
     let choice : c.in_ok-choice.choice ≡ fun (fun a bool) a = c.in_ok-choice.ensures ∙ (λ i. fun (test i) (var i)) in
     c.in_ok-insert-4.ensures.entries ∙ (λ i. insert_entry (pointwise nat_eq)
-        ((c.in_ok-insert-3.ensures.entries ∙ (λ i. insert_entry (pointwise nat_eq)
-            ((c.in_ok-insert-2.ensures.entries ∙ (λ i. insert_entry (pointwise nat_eq)
-                ((c.in_ok-insert.ensures.entries ∙ (λ i. insert_entry (pointwise nat_eq) (c.new-consts.ensures.empty i) ((c.in_ok-word-2.ensures ∙ eq-chars) i) (relation i))) i)
-                ((c.in_ok-word-3.ensures ∙ imp-chars) i) (connective i))) i)
-            ((c.in_ok-word-4.ensures ∙ all-chars) i) (quantifier i))) i)
-        ((c.in_ok-word-5.ensures ∙ eps-chars) i) (choice i))
+    ((c.in_ok-insert-3.ensures.entries ∙ (λ i. insert_entry (pointwise nat_eq)
+    ((c.in_ok-insert-2.ensures.entries ∙ (λ i. insert_entry (pointwise nat_eq)
+    ((c.in_ok-insert.ensures.entries ∙ (λ i. insert_entry (pointwise nat_eq) (c.new-consts.ensures.empty i) ((c.in_ok-word-2.ensures ∙ eq-chars) i) (relation i))) i)
+    ((c.in_ok-word-3.ensures ∙ imp-chars) i) (connective i))) i)
+    ((c.in_ok-word-4.ensures ∙ all-chars) i) (quantifier i))) i)
+    ((c.in_ok-word-5.ensures ∙ eps-chars) i) (choice i))

@@ -3,8 +3,8 @@ use Rattle.lt_definitions.specs.Terms.{TermTree}
 use Rattle.lt_definitions.specs.Binding.{replaced}
 use Rattle.lt_hol.specs.Layout.{HasRoom, first}
 use Rattle.lt_hol.proofs.Nodes.{step, whole, IsStep}
-use Rattle.lt_hol.proofs.Replacing.{room-replaced}
-use Rattle.lt_hol.proofs.subst_free.subst_free.Goals as goal
+use Rattle.lt_hol.proofs.Replacements.{room-replaced}
+use Rattle.lt_hol.proofs.replacing.subst_free.Goals as goal
 
 pub put-requires : goal.put-requires
 put-requires c =

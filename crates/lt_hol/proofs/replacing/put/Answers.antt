@@ -2,8 +2,8 @@ use Rattle.std.proofs.Common.{◌≡◌, ◌∙◌, ◌∷◌, ap, sym, subst, L
 use Rattle.lt_definitions.specs.Terms.{TermTree}
 use Rattle.lt_definitions.specs.Binding.{replaced}
 use Rattle.lt_hol.specs.Layout.{HasRoom, grow}
-use Rattle.lt_hol.proofs.Replacing.{replaces, keeps}
-use Rattle.lt_hol.proofs.subst_free.put.Goals as goal
+use Rattle.lt_hol.proofs.Replacements.{replaces, keeps}
+use Rattle.lt_hol.proofs.replacing.put.Goals as goal
 
 pub returns-then-is_free : goal.returns-then-is_free
 returns-then-is_free c before e =

@@ -11,7 +11,7 @@ use Rattle.lt_hol.specs.FreeNodes.{is_free}
 
 -- the variable itself
 pub replaces : (x : Chars) (ty : TypeTree) (by : TermTree) (before : List TermTree) (n : TermNode) → is_free x ty n ≡ true
-  → by ∷ map (replaced x ty by) before ≡ map (replaced x ty by) (grow before n)
+    → by ∷ map (replaced x ty by) before ≡ map (replaced x ty by) (grow before n)
 replaces x ty by before (Free y u) e = ap (λ (b : Bool). (if b then by else free_variable y u) ∷ map (replaced x ty by) before) (sym e)
 replaces x ty by before (Bound y) e = absurd (cc)
 replaces x ty by before (Const c ts) e = absurd (cc)
@@ -20,7 +20,7 @@ replaces x ty by before (Lam y u i) e = absurd (cc)
 
 -- any other node
 pub keeps : (x : Chars) (ty : TypeTree) (by : TermTree) (before : List TermTree) (n : TermNode) → is_free x ty n ≡ false → HasRoom (map (replaced x ty by) before) n
-  → grow (map (replaced x ty by) before) n ≡ map (replaced x ty by) (grow before n)
+    → grow (map (replaced x ty by) before) n ≡ map (replaced x ty by) (grow before n)
 keeps x ty by before (Free y u) e r = ap (λ (b : Bool). (if b then by else free_variable y u) ∷ map (replaced x ty by) before) (sym e)
 keeps x ty by before (Bound y) e r = refl
 keeps x ty by before (Const c ts) e r = refl

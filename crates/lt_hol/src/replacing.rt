@@ -2,6 +2,7 @@
 ghost use Rattle.std.specs.Prelude.{◌≡◌, IfOk, List, map};
 ghost use Rattle.lt_definitions.specs.Terms.{TermTree};
 ghost use Rattle.lt_definitions.specs.Binding.{replaced};
+ghost use Rattle.lt_hol.specs.FreeNodes.{is_free};
 ghost use Rattle.lt_hol.specs.Layout.{HasRoom, grow};
 
 use crate::term::{Term, TermNode};
@@ -12,13 +13,7 @@ use std::alloc::Global;
 /// The term with another one put for each place of the free variable of that name and type.
 ///
 /// It takes time linear in the term and in what is answered.
-pub fn subst_free(
-    alloc: Global,
-    t: &Term,
-    name: &Name,
-    ty: &Ty,
-    by: &Term,
-) -> Result<Term, Memory>
+pub fn subst_free(alloc: Global, t: &Term, name: &Name, ty: &Ty, by: &Term) -> Result<Term, Memory>
     ensures { IfOk result (λ r. r ≡ replaced name.now ty.now by.now t.now) }
 {
     let mut builder = TermBuilder::new(alloc);
@@ -53,5 +48,47 @@ fn is_free(node: &TermNode, name: &Name, ty: &Ty) -> bool
     match node {
         TermNode::Free(other, other_ty) => name == other && ty == other_ty,
         _ => false,
+    }
+}
+
+#[cfg(test)]
+mod tests {
+    use super::*;
+    use lt_types::Tys;
+    use std::test::Fail;
+
+    #[test]
+    fn one_variable_is_replaced(rt: HostRuntime) -> Result<(), Fail> {
+        let alloc = rt.alloc();
+        let x = Name::new(alloc, "x")?.ok_or("no name")?;
+        let bool = Ty::bool(alloc)?;
+        let other = Ty::var(alloc, x.copy(alloc)?)?;
+        let f = Term::free(alloc, x.copy(alloc)?, other)?;
+        let t = Term::app(
+            alloc,
+            f,
+            Term::free(alloc, x.copy(alloc)?, bool.copy(alloc)?)?,
+        )?;
+        let c = Term::constant(alloc, x.copy(alloc)?, Tys::new(alloc))?;
+        let by = Term::app(alloc, c.copy(alloc)?, c)?;
+        let replaced = subst_free(alloc, &t, &x, &bool, &by)?;
+        assert_eq!(rt; replaced.len(), 5);
+        let mut seen = 0;
+        if replaced.len() == 5 {
+            if let TermNode::Free(y, ty) = replaced.node(0) {
+                assert!(rt; *y == x);
+                assert!(rt; *ty != bool);
+                seen += 1;
+            }
+            if let TermNode::Const(_, _) = replaced.node(1) {
+                seen += 1;
+            }
+            if let TermNode::App(f, a) = replaced.node(4) {
+                assert_eq!(rt; (*f, *a), (0, 3));
+                seen += 1;
+            }
+        }
+        assert_eq!(rt; seen, 3);
+        Ok(())
     }
 }
