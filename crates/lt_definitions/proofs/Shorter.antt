@@ -10,7 +10,7 @@ use Rattle.lt_definitions.specs.Spelling.{is_spelt}
 use Rattle.lt_definitions.specs.Texts.{Left, past_gap, end_of, lexed, lexed_at, lexed_by, after, after_by, IsToken}
 use Rattle.lt_definitions.proofs.Longest.{IsSound, token_sound}
 
-nothing_spelt : (kind : TokenKind) → is_spelt kind [] ≡ false
+pub nothing_spelt : (kind : TokenKind) → is_spelt kind [] ≡ false
 nothing_spelt Name = refl
 nothing_spelt _ = refl
 

@@ -24,13 +24,15 @@ pub record Context : Type 0 where
 abbrev pub empty : Context
 empty = record { signature = built_in; statements = [] }
 
--- further types, constants or named statements, behind the earlier ones
+-- further types behind the earlier ones
 abbrev pub with_types : List (Chars × ℕ) → Context → Context
 with_types ts ctx = record ctx { signature = record ctx.signature { types = ctx.signature.types ++ ts } }
 
+-- further constants behind the earlier ones
 abbrev pub with_consts : List (Chars × TypeTree) → Context → Context
 with_consts cs ctx = record ctx { signature = record ctx.signature { consts = ctx.signature.consts ++ cs } }
 
+-- further named statements behind the earlier ones
 abbrev pub with_statements : List (Chars × TermTree) → Context → Context
 with_statements ps ctx = record ctx { statements = ctx.statements ++ ps }
 
@@ -50,13 +52,15 @@ definition_statement n ty body = equation ty (declared n ty) body
 abbrev pub new_type : Chars → List Chars → TypeTree
 new_type n params = type_constructor n (row (map type_variable params))
 
--- the labels of a typedef's three statements
+-- the label of a typedef's first statement
 abbrev pub rep_label : Chars → Chars
 rep_label n = n ++ codes "_rep"
 
+-- of its second
 abbrev pub rep_inverse_label : Chars → Chars
 rep_inverse_label n = n ++ codes "_rep_inverse"
 
+-- of its third
 abbrev pub abs_inverse_label : Chars → Chars
 abs_inverse_label n = n ++ codes "_abs_inverse"
 

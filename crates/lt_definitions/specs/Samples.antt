@@ -14,10 +14,11 @@ use Rattle.lt_definitions.specs.Items.{Item, type_item, const_item, axiom_item, 
 abbrev pub tyvar : String → TypeTree
 tyvar a = type_variable (codes a)
 
--- (list 'a), and nat alone
+-- (list 'a)
 abbrev pub type_of_args : String → List TypeTree → TypeTree
 type_of_args c ts = type_constructor (codes c) (row ts)
 
+-- nat
 abbrev pub nat : TypeTree
 nat = type_of_args "nat" []
 
@@ -29,10 +30,11 @@ free x ty = free_variable (codes x) ty
 abbrev pub bound : String → TermTree
 bound x = bound_name (codes x)
 
--- c, and c[T U]
+-- c
 abbrev pub con : String → TermTree
 con c = constant (codes c) []
 
+-- c[T U]
 abbrev pub con_at : String → List TypeTree → TermTree
 con_at c ts = constant (codes c) ts
 
@@ -44,16 +46,19 @@ app f a = application f a
 abbrev pub lambda : String → TypeTree → TermTree → TermTree
 lambda x ty b = abstraction (codes x) ty b
 
--- two truth values, a function on them, and a free variable
+-- a truth value
 abbrev pub p : TermTree
 p = con "p"
 
+-- another
 abbrev pub q : TermTree
 q = con "q"
 
+-- a function on truth values
 abbrev pub f : TermTree
 f = con "f"
 
+-- a free variable
 abbrev pub x : TermTree
 x = free "x" bool
 
@@ -74,11 +79,12 @@ abbrev pub facts : List (Chars × TermTree)
 facts = (codes "ff", equation (fun bool bool) f f) ∷ (codes "pq", implies p q) ∷ (codes "qp", implies q p)
     ∷ (codes "fs", for_all bool f_of) ∷ (codes "fx", for_all bool f) ∷ []
 
--- the number and the fault of the first line that has no sequent
+-- the number and the fault, where there is one
 abbrev pub fault_of_lines : Result (List Sequent) (ℕ × LineFault) → Option (ℕ × LineFault)
 fault_of_lines (Ok ss) = None
 fault_of_lines (Err e) = Some e
 
+-- the number and the fault of the first of the lines that has no sequent
 abbrev pub refused_line : List Rule → Option (ℕ × LineFault)
 refused_line lines = fault_of_lines (derived samples facts [] lines)
 
@@ -88,6 +94,7 @@ is_last [] hs c = false
 is_last (s ∷ []) hs c = pointwise is_alpha s.hyps hs && is_alpha s.concl c
 is_last (s ∷ u ∷ later) hs c = is_last (u ∷ later) hs c
 
+-- the same of an outcome
 abbrev pub ends : Result (List Sequent) (ℕ × LineFault) → List TermTree → TermTree → Bool
 ends (Ok ss) hs c = is_last ss hs c
 ends (Err e) hs c = false
@@ -101,6 +108,7 @@ abbrev pub numbers : List Item
 numbers = type_item (codes "nat") 0 ∷ const_item (codes "z") nat ∷ const_item (codes "P") (fun nat bool) ∷ const_item (codes "Q") (fun nat bool)
     ∷ axiom_item (codes "Pz") (app (con "P") (con "z")) ∷ []
 
+-- what these items declare and state
 abbrev pub over_numbers : Context
 over_numbers = context_of empty numbers
 
@@ -112,5 +120,6 @@ typedef_t params predicate = typedef_item (codes "t") params predicate (codes "P
 abbrev pub implication : List Item
 implication = const_item (codes "p") bool ∷ const_item (codes "q") bool ∷ axiom_item (codes "pq") (implies p q) ∷ []
 
+-- what these items declare and state
 abbrev pub over_implication : Context
 over_implication = context_of empty implication

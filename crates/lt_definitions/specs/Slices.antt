@@ -1,10 +1,11 @@
 -- Tokens as slices of a text.
-use Rattle.std.specs.Prelude.{◌≡◌, ℕ, ◌<◌, ◌≤◌, true, List, length, slice_range, chars, IsUtf8}
+use Rattle.std.specs.Prelude.{◌≡◌, ℕ, ◌<◌, ◌≤◌, true, List, ◌++◌, length, slice_range, chars, IsUtf8}
+use Rattle.lt_definitions.specs.declared.lexical.TokenKind.{TokenKind}
 use Rattle.lt_definitions.specs.declared.lexical.Token.{Token}
 use Rattle.lt_definitions.specs.declared.lexical.Lexed.{Lexed}
 use Rattle.lt_definitions.specs.declared.lexical.Lexed.TheVariants.{Token as one, End, BadByte, BadChar}
 use Rattle.lt_definitions.specs.Spelling.{is_spelt}
-use Rattle.lt_definitions.specs.Texts.{Left, here, spelling}
+use Rattle.lt_definitions.specs.Texts.{Left, here, place_of, lexed, spelling, after}
 
 -- the bytes of a token
 abbrev pub bytes_of : List ℕ → Token → List ℕ
@@ -39,3 +40,9 @@ OnNone (one t) P = Unit {0}
 OnNone End P = P
 OnNone (BadByte n) P = P
 OnNone (BadChar n) P = P
+
+-- what stands next is this word, and the rest is behind it
+pub record IsNext (s : Left) (kind : TokenKind) (word rest : List ℕ) : Type 0 where
+  pub token : lexed s ≡ one (record { kind = kind; from = place_of s (word ++ rest); to = place_of s rest })
+  pub spelling : spelling s ≡ word
+  pub after : after s ≡ record s { ahead = rest }

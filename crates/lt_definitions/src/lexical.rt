@@ -1,9 +1,11 @@
 //! What a text is cut into, and the laws of that cutting. Each function does nothing: its contract is the law.
-ghost use Rattle.std.specs.Prelude.{◌≡◌, ◌<◌, ◌↔◌, ◌++◌, ℕ, List, Some, None, MatchOption, true, false, length};
+ghost use Rattle.std.specs.Prelude.{◌≡◌, ◌<◌, ◌↔◌, ◌++◌, ℕ, List, Some, None, MatchOption, true, false, length, encode_utf8_all};
+ghost use Rattle.std.specs.Str.{all_scalars};
 ghost use Rattle.lt_definitions.specs.Tokens.{Scanned, token_at};
 ghost use Rattle.lt_definitions.specs.Characters.{behind_gap};
 ghost use Rattle.lt_definitions.specs.Gaps.{IsPast};
-ghost use Rattle.lt_definitions.specs.Texts.{Left, lexed, after, IsToken};
+ghost use Rattle.lt_definitions.specs.Slices.{IsNext};
+ghost use Rattle.lt_definitions.specs.Texts.{Left, left_of, lexed, after, IsToken};
 ghost use Rattle.lt_definitions.specs.Spelling.{is_spelt, stops, NoToken, IsLongest};
 
 /// What a token is.
@@ -82,4 +84,15 @@ pub fn gaps_are_longest()
 #[tactic(auto, using(crate::proofs::Shorter::token_shortens))]
 pub fn tokens_take_characters()
     ensures { (s : Left) → IsToken (lexed s) → length (after s).ahead < length s.ahead }
+{}
+
+/// What is spelt as a token behind white space and comments, and isn't gone on, is read as that token.
+pub fn spelt_tokens_are_read()
+    ensures { (s : Left) (kind : TokenKind) (word rest : List ℕ) → IsPast s.ahead (word ++ rest) → is_spelt kind word ≡ true → stops kind rest ≡ true → IsNext s kind word rest }
+{}
+
+/// Of a text that encodes characters, all of them are ahead.
+#[tactic(auto, using(crate::proofs::Nearest::all_ahead))]
+pub fn encoded_characters_are_ahead()
+    ensures { (cs : List ℕ) → all_scalars cs ≡ true → left_of (encode_utf8_all cs) ≡ record { source = encode_utf8_all cs; ahead = cs } }
 {}

@@ -17,19 +17,7 @@ pub(crate) fn valid_front<'a>(source: &'a [u8]) -> &'a str
 {
     match str::from_utf8(source) {
         Ok(text) => text,
-        Err(error) => front(source, error.valid_up_to()),
-    }
-}
-
-/// The front of the text, which is UTF-8 up to there.
-fn front<'a>(source: &'a [u8], end: usize) -> &'a str
-    requires utf8 { IsUtf8 (take end source.now) }
-    requires within { end ≤ length source.now }
-    ensures { result.now ≡ take end source.now }
-{
-    match str::from_utf8(&source[..end]) {
-        Ok(text) => text,
-        Err(_) => unreachable!(),
+        Err(error) => unsafe { str::from_utf8_unchecked(&source[..error.valid_up_to()]) },
     }
 }
 
