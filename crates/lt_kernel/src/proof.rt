@@ -115,7 +115,12 @@ impl Proof {
         Ok(())
     }
 
-    fn add_statement(&mut self, alloc: Global, label: &Name, statement: usize) -> Result<(), Fault> {
+    fn add_statement(
+        &mut self,
+        alloc: Global,
+        label: &Name,
+        statement: usize,
+    ) -> Result<(), Fault> {
         if self.statements.contains_key(label) {
             return Err(Fault::Duplicate);
         }

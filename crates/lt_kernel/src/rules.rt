@@ -1,8 +1,8 @@
 //! The rules, each of which gives a sequent or the first reason why there is none.
 
 use crate::fault::Fault;
-use crate::proof::{Proof, Sequent};
 use crate::form::{Line, Term};
+use crate::proof::{Proof, Sequent};
 use lt_hol::Name;
 use std::alloc::Global;
 

@@ -1,8 +1,8 @@
 //! Terms, each of which stands once, with their types.
 
 use crate::fault::Fault;
-use crate::proof::Proof;
 use crate::form::{Term, TermNode};
+use crate::proof::Proof;
 use lt_hol::{Name, TryCopy};
 use std::alloc::Global;
 

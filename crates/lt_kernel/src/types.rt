@@ -1,8 +1,8 @@
 //! Types, each of which stands once.
 
 use crate::fault::Fault;
-use crate::proof::Proof;
 use crate::form::{Ty, TyNode};
+use crate::proof::Proof;
 use lt_hol::{Name, TryCopy};
 use std::alloc::Global;
 

@@ -1,8 +1,8 @@
 //! The items of a plain theory, as data.
 
-use lt_hol::Name;
 use crate::form::term::Term;
 use crate::form::ty::Ty;
+use lt_hol::Name;
 
 /// A line of a derivation. Lines are numbered from 1.
 #[derive(Debug, Drop)]
