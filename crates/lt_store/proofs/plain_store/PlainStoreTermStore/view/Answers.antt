@@ -1,0 +1,12 @@
+use Rattle.std.proofs.Common.{◌≡◌, slice_get, Some, arith}
+use Rattle.std.proofs.lemmas.Grind.{common_steps}
+use Rattle.std.proofs.lemmas.Option.{gets}
+use Rattle.lt_store.specs.Views.{node_of}
+use Rattle.lt_store.proofs.Trees.{stands_at}
+use Rattle.lt_store.proofs.plain_store.PlainStoreTermStore.view.Goals as goal
+
+pub returns-clause-stands : goal.returns-clause-stands
+returns-clause-stands c =
+    let grounded = rw c.self.view_is at c.self.invariant in
+    let at : slice_get c.args.self.now c.args.id ≡ Some (node_of c.view.result) = grind (arith, common_steps, gets) in
+    stands_at _ _ _ grounded at

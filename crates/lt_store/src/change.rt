@@ -1,0 +1,84 @@
+//! What a pass over a term does: it changes something, or looks for something.
+ghost use Rattle.std.specs.Prelude.{◌≡◌, ◌≤◌, IfOk};
+ghost use Rattle.lt_store.specs.Passes.{change_step, sought_step, step_of, type_image};
+
+use crate::node::Id;
+use lt_types::{Memory, Name, TryCopy, Ty, TyMap, tsub};
+use std::alloc::Global;
+
+/// What is put in place of what.
+#[derive(Clone, Copy, Debug)]
+pub enum Change<'a> {
+    /// A term for the bound name that belongs to no binder.
+    Open(Id),
+    /// That bound name for a free variable.
+    Close(&'a Name, &'a Ty),
+    /// A term for a free variable.
+    Replace(&'a Name, &'a Ty, Id),
+    /// Types for type variables.
+    Types(&'a TyMap),
+}
+
+/// What is looked for.
+#[derive(Clone, Copy, Debug)]
+pub enum Sought<'a> {
+    /// A free variable.
+    Variable(&'a Name, &'a Ty),
+    /// The bound name that belongs to no binder.
+    Loose,
+}
+
+/// What a pass does.
+#[derive(Clone, Copy, Debug)]
+pub enum Work<'a> {
+    Make(Change<'a>),
+    Find(Sought<'a>),
+}
+
+impl Work<'_> {
+    /// By how much the depth of a binder's body is greater: 0 where the depth doesn't matter,
+    /// so that a shared node is worked on once.
+    pub fn step(self) -> usize
+        ensures step { result ≡ step_of self.entry }
+        ensures most { result ≤ 1 }
+    {
+        match self {
+            Work::Make(change) => change.step(),
+            Work::Find(sought) => sought.step(),
+        }
+    }
+}
+
+impl Sought<'_> {
+    pub fn step(self) -> usize
+        ensures step { result ≡ sought_step self.entry }
+        ensures most { result ≤ 1 }
+    {
+        match self {
+            Sought::Variable(_, _) => 0,
+            Sought::Loose => 1,
+        }
+    }
+}
+
+impl Change<'_> {
+    pub fn step(self) -> usize
+        ensures step { result ≡ change_step self.entry }
+        ensures most { result ≤ 1 }
+    {
+        match self {
+            Change::Open(_) | Change::Close(_, _) => 1,
+            Change::Replace(_, _, _) | Change::Types(_) => 0,
+        }
+    }
+
+    /// What a type becomes.
+    pub fn ty(self, alloc: Global, ty: &Ty) -> Result<Ty, Memory>
+        ensures { IfOk result (λ t. t ≡ type_image self.entry ty.now) }
+    {
+        match self {
+            Change::Types(map) => Ok(tsub(alloc, ty, map)?),
+            Change::Open(_) | Change::Close(_, _) | Change::Replace(_, _, _) => Ok(ty.copy(alloc)?),
+        }
+    }
+}
