@@ -1,14 +1,19 @@
 //! Laws that tie nameless terms and their rules to named ones. Each function does nothing: its contract is the law.
-ghost use Rattle.std.specs.Prelude.{◌≡◌, List, [], Ok, None, map};
+ghost use Rattle.std.specs.Prelude.{◌≡◌, ◌↔◌, List, [], Ok, None, map};
 ghost use Rattle.std.specs.List.{All};
 ghost use Rattle.lt_definitions.specs.Types.{Chars, TypeTree};
 ghost use Rattle.lt_definitions.specs.Terms.{TermTree};
 ghost use Rattle.lt_definitions.specs.Typing.{Signature, HasType};
-ghost use Rattle.lt_definitions.specs.Rules.{Sequent, Rule, step};
+ghost use Rattle.lt_definitions.specs.Rules.{Sequent, Rule, Outcome, IsAlphaEqualOutcome, step};
 ghost use Rattle.lt_definitions.specs.Booleans.{IsSoundSignature};
 ghost use Rattle.lt_definitions.specs.Derivations.{rule_fault};
 ghost use Rattle.lt_definitions.specs.Nameless.{Nameless, NamelessSequent, nameless, nameless_sequent, named, IsWhole};
 ghost use Rattle.lt_definitions.specs.NamelessRules.{nameless_outcome, nameless_statements, nameless_rule, nameless_rule_fault, nameless_step, NamelessRule, AreWholeStatements, AreWholeSequents, IsWholeSequent, IsBooleanNameless, IsBooleanNamelessSequent};
+
+/// Two outcomes are alpha-equal exactly where their nameless forms are equal.
+pub fn outcomes_are_nameless()
+    ensures { (a b : Outcome) → IsAlphaEqualOutcome a b ↔ (nameless_outcome a ≡ nameless_outcome b) }
+{}
 
 /// Each nameless term whose indices have binders is the nameless form of a named one.
 pub fn nameless_of_named()

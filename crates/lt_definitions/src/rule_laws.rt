@@ -4,11 +4,11 @@ ghost use Rattle.std.specs.List.{All};
 ghost use Rattle.lt_definitions.specs.Types.{Chars};
 ghost use Rattle.lt_definitions.specs.Terms.{TermTree};
 ghost use Rattle.lt_definitions.specs.Typing.{Signature};
-ghost use Rattle.lt_definitions.specs.Rules.{Sequent, Rule, step};
+ghost use Rattle.lt_definitions.specs.Rules.{Sequent, Rule, IsAlphaEqualOutcome, step};
 ghost use Rattle.lt_definitions.specs.Derivations.{Derives, AreOnce, AreAmong, rule_fault, derived, IsPartOf};
 ghost use Rattle.lt_definitions.specs.Booleans.{IsSoundSignature, IsBooleanSequent, AreBooleanStatements};
 ghost use Rattle.lt_definitions.specs.Nameless.{nameless_sequent};
-ghost use Rattle.lt_definitions.specs.NamelessRules.{nameless_outcome, nameless_statements, nameless_rule};
+ghost use Rattle.lt_definitions.specs.NamelessRules.{nameless_statements, nameless_rule};
 ghost use Rattle.lt_definitions.specs.Items.{Context, Item, context_of};
 
 /// Each rule gives a sequent of boolean terms from sequents of boolean terms and boolean statements.
@@ -30,7 +30,7 @@ pub fn step_respects_alpha()
     ensures { (sig : Signature) (named also_named : List (Chars × TermTree)) (done also_done : List Sequent) (line also_line : Rule)
         → nameless_statements named ≡ nameless_statements also_named → map nameless_sequent done ≡ map nameless_sequent also_done
         → nameless_rule line ≡ nameless_rule also_line → rule_fault sig line ≡ None → rule_fault sig also_line ≡ None
-        → nameless_outcome (step sig named done line) ≡ nameless_outcome (step sig also_named also_done also_line) }
+        → IsAlphaEqualOutcome (step sig named done line) (step sig also_named also_done also_line) }
 {}
 
 /// The lines of a derivation have sequents exactly where the derivation stands.

@@ -1,0 +1,5 @@
+use Rattle.lt_definitions.proofs.Outcomes.{outcomes_are_nameless}
+use Rattle.lt_definitions.proofs.nameless_laws.outcomes_are_nameless.Goals as goal
+
+pub returns : goal.returns
+returns c = outcomes_are_nameless
