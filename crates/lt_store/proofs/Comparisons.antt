@@ -1,12 +1,12 @@
 -- What a comparison of two nodes says of their terms, and what the loop of comparisons keeps.
-use Rattle.std.proofs.Common.{◌≡◌, ℕ, zero, suc, ◌+◌, ◌<◌, ◌≤◌, List, [], ◌∷◌, ◌++◌, length, slice_get, get_or, Option, Some, None, IsSome, Bool, true, false, refl, ap, sym, ◌∙◌, arith, rules, ◌↔◌, if◌then◌else◌, ◌&&◌, nat_eq, sum_by, MatchOption, true≢false, subst, ◌⊎◌, inl, inr}
+use Rattle.std.proofs.Common.{◌≡◌, ℕ, zero, suc, ◌+◌, ◌<◌, ◌≤◌, List, [], ◌∷◌, ◌++◌, length, slice_get, get_or, Option, Some, None, Bool, true, false, refl, ap, sym, ◌∙◌, arith, ◌↔◌, if◌then◌else◌, ◌&&◌, nat_eq, sum_by, MatchOption, true≢false, subst, ◌⊎◌, inl, inr}
 use Rattle.std.proofs.lemmas.List.Sums.{sum_by-append}
 use Rattle.std.proofs.lemmas.Option.{slice_get-get_or}
 use Rattle.std.proofs.lemmas.Bool.Decides.{nat_tests}
 use Rattle.std.proofs.lemmas.Grind.{common_steps}
-use Rattle.lt_definitions.specs.Types.{Chars, TypeTree, same_name, same_type, same_types, row}
+use Rattle.lt_definitions.specs.Types.{TypeTree, same_name, same_type, same_types, row}
 use Rattle.lt_definitions.proofs.Tests.{both-true, true-both, name-true, true-name, type-true, true-type, row-true, true-row}
-use Rattle.lt_definitions.specs.Nameless.{Nameless, nameless_free, nameless_bound, nameless_constant, nameless_application, nameless_abstraction}
+use Rattle.lt_definitions.specs.Nameless.{Nameless, nameless_free, nameless_bound, nameless_constant, nameless_abstraction}
 use Rattle.lt_store.specs.declared.node.Node.{Node}
 use Rattle.lt_store.specs.declared.node.Node.TheVariants.{Free, Bound, Const, App, Lam}
 use Rattle.lt_store.specs.Trees.{tree_at, node_tree, tree_size, IsBelow, IsGrounded}

@@ -1,5 +1,5 @@
 -- Tasks of a pass: what each still needs, and that they get fewer.
-use Rattle.std.proofs.Common.{◌≡◌, ℕ, suc, ◌+◌, ◌*◌, ◌<◌, ◌≤◌, List, [], ◌∷◌, ◌++◌, length, append_assoc, append-nil, slice_get, Some, refl, ap, sym, ◌∙◌, subst, arith, sum_by, ◌⊎◌, inl, inr}
+use Rattle.std.proofs.Common.{◌≡◌, ℕ, ◌+◌, ◌*◌, ◌<◌, ◌≤◌, List, [], ◌∷◌, ◌++◌, length, append_assoc, append-nil, slice_get, Some, refl, ap, sym, ◌∙◌, subst, arith, sum_by, ◌⊎◌, inl, inr}
 use Rattle.std.proofs.lemmas.List.Sums.{sum_by-append}
 use Rattle.std.proofs.lemmas.Option.{same_Some}
 use Rattle.lt_store.specs.declared.node.Node.{Node}
@@ -7,7 +7,7 @@ use Rattle.lt_store.specs.declared.node.Node.TheVariants.{Free, Bound, Const, Ap
 use Rattle.lt_store.specs.declared.pass.Task.{Task}
 use Rattle.lt_store.specs.declared.pass.Task.TheVariants.{Visit, Finish}
 use Rattle.lt_store.specs.Trees.{tree_at, node_tree, tree_size, IsBelow, Extends}
-use Rattle.lt_store.specs.Memos.{Memo, result_at, IsKept, AllKept}
+use Rattle.lt_store.specs.Memos.{Memo, IsKept, AllKept}
 use Rattle.lt_store.specs.Passes.{children}
 use Rattle.lt_store.specs.Tasks.{visits}
 use Rattle.lt_store.proofs.Trees.{node_back, stands_back, tree_size-positive}

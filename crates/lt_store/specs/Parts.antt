@@ -1,5 +1,5 @@
 -- The parts in which two nodes are to be compared.
-use Rattle.std.specs.Prelude.{ℕ, List, [], ◌∷◌, Option, Some, None, Bool, if◌then◌else◌, nat_eq, ◌&&◌}
+use Rattle.std.specs.Prelude.{ℕ, List, [], ◌∷◌, Option, Some, None, if◌then◌else◌, nat_eq, ◌&&◌}
 use Rattle.lt_definitions.specs.Types.{same_name, same_type, same_types, row}
 use Rattle.lt_store.specs.declared.node.Node.{Node}
 use Rattle.lt_store.specs.declared.node.Node.TheVariants.{Free, Bound, Const, App, Lam}

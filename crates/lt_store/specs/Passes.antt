@@ -1,5 +1,5 @@
 -- What a pass over a term makes, or tells.
-use Rattle.std.specs.Prelude.{◌≡◌, ℕ, ◌+◌, ◌<◌, List, [], ◌∷◌, Bool, length, if◌then◌else◌, map, Some}
+use Rattle.std.specs.Prelude.{◌≡◌, ℕ, ◌+◌, ◌<◌, List, [], ◌∷◌, Bool, length, if◌then◌else◌, Some}
 use Rattle.lt_definitions.specs.Types.{TypeTree, type_instance}
 use Rattle.lt_definitions.specs.Nameless.{Nameless}
 use Rattle.lt_definitions.specs.NamelessRules.{instance_at, abstracted, nameless_replaced, nameless_instance, nameless_has_free, has_index}

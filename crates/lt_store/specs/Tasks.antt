@@ -1,5 +1,5 @@
 -- Tasks of a pass.
-use Rattle.std.specs.Prelude.{ℕ, List, [], ◌∷◌, map}
+use Rattle.std.specs.Prelude.{ℕ, List, map}
 use Rattle.lt_store.specs.declared.pass.Task.{Task}
 use Rattle.lt_store.specs.declared.pass.Task.TheVariants.{Visit}
 

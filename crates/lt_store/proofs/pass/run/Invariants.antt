@@ -1,4 +1,3 @@
-use Rattle.std.proofs.Common.{◌≡◌}
 use Rattle.lt_store.specs.Trees.{Extends}
 use Rattle.lt_store.specs.Passes.{IsSound, step_of}
 use Rattle.lt_store.proofs.Tasks.{IsUnderway, total_weight}

@@ -1,4 +1,4 @@
-use Rattle.std.proofs.Common.{◌≡◌, ◌∙◌, ap, nat_eq}
+use Rattle.std.proofs.Common.{◌∙◌, ap, nat_eq}
 use Rattle.lt_definitions.specs.NamelessRules.{has_index}
 use Rattle.lt_store.proofs.Trees.{tree_at-extends}
 use Rattle.lt_store.proofs.Images.{number_test}

@@ -1,4 +1,3 @@
-use Rattle.std.proofs.Common.{◌≡◌}
 use Rattle.lt_store.proofs.Trees.{extends_on}
 use Rattle.lt_store.proofs.Lists.{each_more, AllBelow-push, AllBelow-wider}
 use Rattle.lt_store.proofs.passes.make_each.Goals as goal

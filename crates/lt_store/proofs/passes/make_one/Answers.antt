@@ -1,4 +1,4 @@
-use Rattle.std.proofs.Common.{◌≡◌, ◌∙◌, ap}
+use Rattle.std.proofs.Common.{◌∙◌, ap}
 use Rattle.lt_store.specs.Passes.{image}
 use Rattle.lt_store.proofs.Trees.{tree_at-extends}
 use Rattle.lt_store.proofs.Images.{image-extends}

@@ -1,8 +1,7 @@
-use Rattle.std.proofs.Common.{◌≡◌, ◌<◌, ℕ, length, arith, rules, refl, sym, ap, ◌∙◌, List, [], ◌∷◌, ◌++◌, false, IsSome, inl, inr}
+use Rattle.std.proofs.Common.{◌≡◌, ◌<◌, length, arith, rules, refl, [], ◌∷◌, false, IsSome, inl, inr}
 use Rattle.std.proofs.lemmas.Bool.{false≢true}
 use Rattle.std.proofs.lemmas.Grind.{common_steps}
-use Rattle.lt_store.specs.Memos.{Memo, result_at, IsKept}
-use Rattle.lt_store.specs.declared.node.Node.TheVariants.{Bound}
+use Rattle.lt_store.specs.Memos.{result_at}
 use Rattle.lt_store.proofs.Trees.{node_read}
 use Rattle.lt_store.proofs.Memos.{empty_memo}
 use Rattle.lt_store.proofs.Comparisons.{compared_first, compared_last, pair_in, passed_over, passed_smaller, pair_differs, goes_on}

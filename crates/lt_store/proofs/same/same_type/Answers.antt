@@ -1,4 +1,4 @@
-use Rattle.std.proofs.Common.{◌≡◌, sym, ◌∙◌}
+use Rattle.std.proofs.Common.{sym, ◌∙◌}
 use Rattle.lt_definitions.proofs.Tests.{type-true, true-type}
 use Rattle.lt_store.proofs.same.same_type.Goals as goal
 

@@ -1,0 +1,5 @@
+use Rattle.std.proofs.Common.{◌≡◌, length}
+use Rattle.lt_syntax.proofs.tests.deep_types.Given as goal
+
+abbrev pub invariant-build : goal.invariant-build
+invariant-build l = length l.builder ≡ 1

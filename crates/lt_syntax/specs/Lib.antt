@@ -1,0 +1,5 @@
+pub mod Signs
+pub mod TypeText
+pub mod TermText
+pub mod Depths
+pub mod ItemText
