@@ -1,0 +1,4 @@
+pub mod Machine
+pub mod Table
+pub mod Notes
+pub mod Reading
