@@ -1,6 +1,6 @@
 //! The tests: each call once over the plain store, through the trait's bound, and long and shared terms.
 use super::*;
-use lt_types::{List, Memory, Name, TryCopy, Ty, TyMap};
+use lt_types::{List, Memory, Name, Ty};
 use std::alloc::Global;
 use std::process::Abort;
 use std::test::Fail;
@@ -126,31 +126,6 @@ fn opens_closes_and_replaces<S: TermStore>(
 fn a_term_is_opened_closed_and_replaced(rt: HostRuntime) -> Result<(), Fail> {
     let mut store = PlainStore::new(rt.alloc());
     opens_closes_and_replaces(rt.alloc(), &rt, &mut store)?;
-    Ok(())
-}
-
-#[test]
-fn types_are_put_for_type_variables(rt: HostRuntime) -> Result<(), Fail> {
-    let alloc = rt.alloc();
-    let mut store = PlainStore::new(alloc);
-    let a = Ty::var(alloc, name(alloc, &rt, "a")?)?;
-    let bool = bool_type(alloc, &rt)?;
-    let mut general = List::new(alloc);
-    general.push(alloc, a.copy(alloc)?)?;
-    let mut special = List::new(alloc);
-    special.push(alloc, bool.copy(alloc)?)?;
-    let equal = store.mk_const(alloc, name(alloc, &rt, "eq")?, general)?;
-    let x = store.mk_free(alloc, name(alloc, &rt, "x")?, a)?;
-    let whole = apply(alloc, &rt, &mut store, equal, x)?;
-    let equal = store.mk_const(alloc, name(alloc, &rt, "eq")?, special)?;
-    let x = variable(alloc, &rt, &mut store, "x")?;
-    let wanted = apply(alloc, &rt, &mut store, equal, x)?;
-    let mut by = TyMap::new(alloc);
-    by.put(alloc, name(alloc, &rt, "a")?, bool)?;
-    assert!(rt; whole < store.len());
-    let made = type_instance(alloc, &mut store, whole, &by)?;
-    assert!(rt; are_same(alloc, &rt, &store, made, wanted)?);
-    assert!(rt; !are_same(alloc, &rt, &store, whole, wanted)?);
     Ok(())
 }
 
