@@ -1,5 +1,5 @@
 -- Bytes of ASCII are their own characters.
-use Rattle.std.proofs.Common.{◌≡◌, ◌∙◌, ℕ, zero, suc, ◌<◌, List, [], ◌∷◌, Bool, true, false, ◌&&◌, nat_lt, get_or, refl, sym, arith, IsAscii, chars}
+use Rattle.std.proofs.Common.{◌≡◌, ℕ, zero, suc, List, [], ◌∷◌, Bool, true, false, ◌&&◌, nat_lt, refl, sym, arith, IsAscii, chars}
 use Rattle.std.proofs.lemmas.Bool.{ltb-true}
 use Rattle.std.proofs.lemmas.Str.{chars_from_encodes, IsUtf8-from_ascii, encodes-IsAscii}
 use Rattle.lt_syntax.specs.Signs.{are_ascii}

@@ -3,9 +3,8 @@ use Rattle.std.proofs.Common.{◌≡◌, ℕ, ◌+◌, ◌*◌, ◌<◌, List, [
 use Rattle.lt_hol.specs.declared.term.TermNode.{TermNode}
 use Rattle.lt_hol.specs.declared.term.TermNode.TheVariants.{Free, Bound, Const, App, Lam}
 use Rattle.lt_definitions.specs.Types.{Chars}
-use Rattle.lt_definitions.specs.Terms.{TermTree}
 use Rattle.lt_definitions.specs.Printing.{printed_type, printed_bound, printed_constant, printed_part}
-use Rattle.lt_hol.specs.Layout.{under, term_size}
+use Rattle.lt_hol.specs.Layout.{term_size}
 use Rattle.lt_syntax.specs.declared.pieces.Piece.{Piece}
 use Rattle.lt_syntax.specs.declared.pieces.Piece.TheVariants.{Head, Argument, Bracket, End}
 use Rattle.lt_syntax.specs.TermText.{term_front, later_pieces, binders_within}

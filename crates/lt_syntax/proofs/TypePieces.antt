@@ -2,9 +2,9 @@
 use Rattle.std.proofs.Common.{◌≡◌, ℕ, ◌+◌, ◌*◌, ◌<◌, List, [], ◌∷◌, ◌++◌, length, map, codes, refl, sym, ◌∙◌, ap, subst, arith, append_assoc, append-nil}
 use Rattle.lt_types.specs.declared.ty.TyNode.{TyNode}
 use Rattle.lt_types.specs.declared.ty.TyNode.TheVariants.{Var, Con}
-use Rattle.lt_definitions.specs.Types.{Chars, TypeTree, type_variable, type_constructor, row}
+use Rattle.lt_definitions.specs.Types.{Chars, row}
 use Rattle.lt_definitions.specs.Printing.{printed_type, printed_types}
-use Rattle.lt_types.specs.Layout.{below, sizes, type_size}
+use Rattle.lt_types.specs.Layout.{sizes, type_size}
 use Rattle.lt_syntax.specs.TypeText.{type_front, argument_rows}
 use Rattle.lt_syntax.proofs.TypePlaces.{type_at, tree_of, AreBelow, places_of, IsPlace}
 

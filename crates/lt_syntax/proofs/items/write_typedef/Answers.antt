@@ -1,5 +1,4 @@
 use Rattle.std.proofs.Common.{◌∙◌, ◌++◌, codes, ap}
-use Rattle.lt_definitions.specs.Printing.{printed_term}
 use Rattle.lt_syntax.specs.ItemText.{spaced_params}
 use Rattle.lt_syntax.proofs.ItemHeads.{eleven, all-params}
 use Rattle.lt_syntax.proofs.items.write_typedef.Goals as goal

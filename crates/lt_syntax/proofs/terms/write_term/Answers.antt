@@ -1,6 +1,6 @@
-use Rattle.std.proofs.Common.{◌≡◌, ◌∙◌, ◌-◌, ◌++◌, ◌∷◌, [], ℕ, Bool, true, false, List, ◌<◌, length, ap, subst, refl, arith}
+use Rattle.std.proofs.Common.{◌≡◌, ◌∙◌, ◌-◌, ◌++◌, ◌∷◌, [], true, false, List, ◌<◌, length, ap, subst, refl, arith}
 use Rattle.lt_definitions.specs.Types.{Chars}
-use Rattle.lt_definitions.specs.Printing.{printed_part, printed_term}
+use Rattle.lt_definitions.specs.Printing.{printed_term}
 use Rattle.lt_hol.specs.Layout.{under, term_nodes}
 use Rattle.lt_hol.proofs.Nodes.{length-term_nodes}
 use Rattle.lt_syntax.specs.declared.pieces.Piece.{Piece}

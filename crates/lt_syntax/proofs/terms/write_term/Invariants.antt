@@ -1,4 +1,4 @@
-use Rattle.std.proofs.Common.{◌≡◌, ◌++◌, []}
+use Rattle.std.proofs.Common.{◌++◌, []}
 use Rattle.lt_definitions.specs.Printing.{printed_term}
 use Rattle.lt_hol.specs.Layout.{term_nodes}
 use Rattle.lt_syntax.proofs.TermPieces.{IsWriting, weights}

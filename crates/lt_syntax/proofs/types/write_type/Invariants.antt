@@ -1,4 +1,4 @@
-use Rattle.std.proofs.Common.{◌≡◌, ◌++◌}
+use Rattle.std.proofs.Common.{◌++◌}
 use Rattle.lt_definitions.specs.Printing.{printed_type}
 use Rattle.lt_types.specs.Layout.{type_nodes}
 use Rattle.lt_syntax.specs.TypeText.{targets}

@@ -1,4 +1,4 @@
-use Rattle.std.proofs.Common.{◌≡◌, ◌∙◌, Option, Some, None, ℕ, ap}
+use Rattle.std.proofs.Common.{◌∙◌, Option, None, ℕ, ap}
 use Rattle.std.specs.Option.{unwrap_or}
 use Rattle.lt_syntax.specs.Depths.{depth_of}
 use Rattle.lt_syntax.proofs.binders.Binders.depth_of.Goals as goal

@@ -1,4 +1,4 @@
-use Rattle.std.proofs.Common.{◌≡◌, ◌∙◌, ◌∷◌, [], List, ap, sym}
+use Rattle.std.proofs.Common.{◌∙◌, ◌∷◌, [], List, ap, sym}
 use Rattle.lt_syntax.specs.Depths.{depth_of, Opened, names_of}
 use Rattle.lt_syntax.proofs.OpenBinders.{kept-enter, names_of-append}
 use Rattle.lt_syntax.proofs.binders.Binders.enter.Goals as goal

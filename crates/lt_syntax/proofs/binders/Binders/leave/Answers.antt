@@ -1,4 +1,4 @@
-use Rattle.std.proofs.Common.{◌≡◌, ◌∙◌, ◌∷◌, ◌++◌, [], List, ℕ, length, drop, ap, sym, subst, append-nil}
+use Rattle.std.proofs.Common.{◌∙◌, [], List, drop, ap, sym, subst, append-nil}
 use Rattle.lt_syntax.specs.Depths.{Opened, names_of, IsKept}
 use Rattle.lt_syntax.proofs.OpenBinders.{kept-leave, names_of-append, none-entered}
 use Rattle.lt_syntax.proofs.binders.Binders.leave.Goals as goal

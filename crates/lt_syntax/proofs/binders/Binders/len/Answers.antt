@@ -1,5 +1,4 @@
-use Rattle.std.proofs.Common.{◌≡◌, ◌∙◌, ◌+◌, [], ap, arith, length}
-use Rattle.lt_syntax.specs.Depths.{names_of}
+use Rattle.std.proofs.Common.{[], ap, arith, length}
 use Rattle.lt_syntax.proofs.OpenBinders.{length-names_of}
 use Rattle.lt_syntax.proofs.binders.Binders.len.Goals as goal
 
