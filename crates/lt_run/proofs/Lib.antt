@@ -1,1 +1,4 @@
-mod Lists
+pub mod Lists
+pub mod Lengths
+pub mod Fronts
+pub mod WalkEnds
