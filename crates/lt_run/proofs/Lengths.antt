@@ -1,6 +1,6 @@
 -- How many characters a text's items take.
-use Rattle.std.proofs.Common.{◌≡◌, ℕ, zero, suc, ◌+◌, ◌<◌, ◌≤◌, ap, sym, subst, List, [], ◌∷◌, ◌++◌, length, arith, length-append, take, length-take}
-use Rattle.std.specs.Str.{chars, chars_after}
+use Rattle.std.proofs.Common.{◌≡◌, ℕ, zero, suc, ◌+◌, ◌*◌, ◌-◌, ◌<◌, ◌≤◌, ap, sym, subst, List, [], ◌∷◌, ◌++◌, length, arith, length-append, take, length-take}
+use Rattle.std.specs.Str.{chars, chars_after, continuation_len, lead_bits}
 use Rattle.std.specs.Str.Lossy.{utf8_valid_len}
 use Rattle.lt_definitions.specs.Items.{Item}
 use Rattle.lt_definitions.specs.Texts.{Left, left_of, lexed, after, IsToken}
@@ -44,14 +44,14 @@ text_shortens s s' i (parts, h, spans) =
 
 chars_after-few : (n c : ℕ) (bs : List ℕ) → length (chars_after n c bs) ≤ length bs + 1
 chars_after-few zero c [] = omega arith
-chars_after-few zero c (b ∷ bs) = omega (arith, chars_after-few _ _ bs)
+chars_after-few zero c (b ∷ bs) = omega (arith, chars_after-few (continuation_len b) (lead_bits b) bs)
 chars_after-few (suc n) c [] = omega arith
-chars_after-few (suc n) c (b ∷ bs) = omega (arith, chars_after-few n _ bs)
+chars_after-few (suc n) c (b ∷ bs) = omega (arith, chars_after-few n (c * 64 + (b - 128)) bs)
 
 chars-few : (bs : List ℕ) → length (chars bs) ≤ length bs
 unfolding chars
 chars-few [] = omega arith
-chars-few (b ∷ bs) = omega (arith, chars_after-few _ _ bs)
+chars-few (b ∷ bs) = omega (arith, chars_after-few (continuation_len b) (lead_bits b) bs)
 
 ahead-few : (text : List ℕ) → length (left_of text).ahead ≤ length text
 ahead-few text = omega (arith, chars-few (take (utf8_valid_len text) text), length-take (utf8_valid_len text) text)

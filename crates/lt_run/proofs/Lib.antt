@@ -1,4 +1,5 @@
 pub mod Lists
+pub mod Forms
 pub mod Lengths
 pub mod Fronts
 pub mod WalkEnds

@@ -62,13 +62,16 @@ pub record IsEnd (text : List ℕ) (items more : List Item) (ending : Ending) : 
 
 one-more : (text : List ℕ) (items : List Item) (i : Item) → (m : List Item) × (e : Ending) × IsEnd text (items ++ i ∷ []) m e → (m : List Item) × (e : Ending) × IsEnd text items m e
 one-more text items i (m, e, w) =
-    let same : (items ++ i ∷ []) ++ m ≡ items ++ i ∷ m = append_assoc items (i ∷ []) m in
-    (i ∷ m, e, record {
-      walk = subst (λ (z : List Item). Walk text z e) same w.walk;
-      rest = encode_utf8_all (summary_line i) ++ w.rest;
-      lines = ap (λ (z : List Item). reported z e) (sym same) ∙ w.lines ∙ ap (λ (z : List ℕ). z ++ w.rest) (lines_more items i)
-          ∙ append_assoc (lines_of items) (encode_utf8_all (summary_line i)) w.rest;
-    })
+    let same : (items ++ i ∷ []) ++ m ≡ items ++ i ∷ m = append_assoc items (i ∷ []) m in (
+      i ∷ m,
+      e,
+      record {
+        walk = subst (λ (z : List Item). Walk text z e) same w.walk;
+        rest = encode_utf8_all (summary_line i) ++ w.rest;
+        lines = ap (λ (z : List Item). reported z e) (sym same) ∙ w.lines ∙ ap (λ (z : List ℕ). z ++ w.rest) (lines_more items i)
+            ∙ append_assoc (lines_of items) (encode_utf8_all (summary_line i)) w.rest;
+      },
+    )
 
 ends-by : (o : Option Refusal) (text : List ℕ) (items : List Item) (i : Item) (later : List Item) → refusal (context_of empty items) i ≡ o → length text ≤ plain_limit
     → HasItems text (items ++ i ∷ later) → IsPlainTheory items
@@ -76,23 +79,29 @@ ends-by : (o : Option Refusal) (text : List ℕ) (items : List Item) (i : Item) 
 ends-by None text items i later e short has valid go = one-more text items i (go (valid_more empty items i valid e))
 ends-by (Some r) text items i later e short has valid go =
     let same : items ++ [] ≡ items = append-nil items in
-    let wrong : IsSome (refusal (context_of empty items) i) = subst (λ (z : Option Refusal). IsSome z) (sym e) tt in
-    ([], AtItem (length items + 1), record {
-      walk = subst (λ (z : List Item). Walk text z (AtItem (length items + 1))) (sym same) (walk_at text items later i (length items + 1) short has valid wrong refl);
-      rest = [];
-      lines = ap (λ (z : List Item). reported z (AtItem (length items + 1))) same ∙ reported_at items (length items + 1) ∙ sym (append-nil (lines_of items));
-    })
+    let wrong : IsSome (refusal (context_of empty items) i) = subst (λ (z : Option Refusal). IsSome z) (sym e) tt in (
+      [],
+      AtItem (length items + 1),
+      record {
+        walk = subst (λ (z : List Item). Walk text z (AtItem (length items + 1))) (sym same) (walk_at text items later i (length items + 1) short has valid wrong refl);
+        rest = [];
+        lines = ap (λ (z : List Item). reported z (AtItem (length items + 1))) same ∙ reported_at items (length items + 1) ∙ sym (append-nil (lines_of items));
+      },
+    )
 
 -- Behind accepted items of a text of the form, the walk has an end.
 pub ends : (text : List ℕ) (items later : List Item) → length text ≤ plain_limit → HasItems text (items ++ later) → IsPlainTheory items
     → (m : List Item) × (e : Ending) × IsEnd text items m e
 ends text items [] short has valid =
-    let same : items ++ [] ≡ items = append-nil items in
-    ([], Accepted, record {
-      walk = subst (λ (z : List Item). Walk text z Accepted) (sym same) (walk_accepted text items short (subst (λ (z : List Item). HasItems text z) same has) valid);
-      rest = encode_utf8_all (count_line items);
-      lines = ap (λ (z : List Item). reported z Accepted) same ∙ reported_accepted items;
-    })
+    let same : items ++ [] ≡ items = append-nil items in (
+      [],
+      Accepted,
+      record {
+        walk = subst (λ (z : List Item). Walk text z Accepted) (sym same) (walk_accepted text items short (subst (λ (z : List Item). HasItems text z) same has) valid);
+        rest = encode_utf8_all (count_line items);
+        lines = ap (λ (z : List Item). reported z Accepted) same ∙ reported_accepted items;
+      },
+    )
 ends text items (i ∷ later) short has valid =
     ends-by (refusal (context_of empty items) i) text items i later refl short has valid
     (λ v. ends text (items ++ i ∷ []) later short (subst (λ (z : List Item). HasItems text z) (sym (append_assoc items (i ∷ []) later)) has) v)

@@ -1,5 +1,5 @@
 //! Whether a text is of the form, and the items of one that is.
-ghost use Rattle.std.specs.Prelude.{◌≡◌, false, IfOk, MatchOption};
+ghost use Rattle.std.specs.Prelude.{◌≡◌, [], false, IfOk, MatchOption};
 ghost use Rattle.std.specs.Bool.{MatchBool};
 ghost use Rattle.lt_definitions.specs.Lexemes.{Spans};
 ghost use Rattle.lt_definitions.specs.PlainTexts.{header, part_lexemes};
@@ -24,11 +24,14 @@ pub(crate) fn is_of_form(alloc: Global, text: &[u8]) -> Result<bool, Memory>
         Err(unread) => return of_no_form(unread),
     };
     'items: loop {
-        reader = match reader.next_notes(alloc) {
-            Ok(Some((_, rest))) => rest,
-            Ok(None) => return Ok(true),
+        let next = match reader.next_notes(alloc) {
+            Ok(next) => next,
             Err(unread) => return of_no_form(unread),
         };
+        let Some((_notes, rest)) = next else {
+            return Ok(true);
+        };
+        reader = rest;
     }
 }
 
@@ -49,8 +52,7 @@ pub(crate) fn open_text<'a>(alloc: Global, text: &'a [u8]) -> Result<Reader<'a>,
 {
     match Reader::new(alloc, text) {
         Ok(reader) => Ok(reader),
-        Err(Unread::Memory) => Err(Memory),
-        Err(_) => unreachable!(),
+        Err(unread) => Err(want_of_memory(unread)),
     }
 }
 
@@ -59,12 +61,21 @@ pub(crate) fn take_item<'a>(
     alloc: Global,
     reader: Reader<'a>,
 ) -> Result<Option<(Item, Reader<'a>)>, Memory>
-    requires { IsLeftOfForm reader.entry }
+    requires { IsLeftOfForm reader }
     ensures { IfOk result (λ o. MatchOption o (AtEnd reader.entry) (λ p. NextItem reader.entry (item_of p.0) p.1)) }
 {
     match next_item(alloc, reader) {
         Ok(next) => Ok(next),
-        Err(Unread::Memory) => Err(Memory),
-        Err(_) => unreachable!(),
+        Err(unread) => Err(want_of_memory(unread)),
+    }
+}
+
+/// What kept a text of the form from being read.
+fn want_of_memory(unread: Unread) -> Memory
+    requires { IsOfText unread → ⊥ }
+{
+    match unread {
+        Unread::Memory => Memory,
+        _ => unreachable!(),
     }
 }
