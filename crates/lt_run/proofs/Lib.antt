@@ -3,3 +3,4 @@ pub mod Forms
 pub mod Lengths
 pub mod Fronts
 pub mod WalkEnds
+pub mod OnTheWay

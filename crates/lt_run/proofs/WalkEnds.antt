@@ -79,7 +79,7 @@ ends-by : (o : Option Refusal) (text : List ℕ) (items : List Item) (i : Item) 
 ends-by None text items i later e short has valid go = one-more text items i (go (valid_more empty items i valid e))
 ends-by (Some r) text items i later e short has valid go =
     let same : items ++ [] ≡ items = append-nil items in
-    let wrong : IsSome (refusal (context_of empty items) i) = subst (λ (z : Option Refusal). IsSome z) (sym e) tt in (
+    let wrong : IsSome (refusal (context_of empty items) i) = subst (λ (z : Option Refusal). IsSome z) (sym e) refl in (
       [],
       AtItem (length items + 1),
       record {

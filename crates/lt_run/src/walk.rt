@@ -1,7 +1,7 @@
 //! The walk through a text: its items are checked and reported one after another.
-ghost use Rattle.std.specs.Prelude.{◌≡◌, ◌⊎◌, ◌≤◌, [], length, IfOk, IfErr, OnOk, OnErr, IsErrOf, IsSome, None, encode_utf8_all};
+ghost use Rattle.std.specs.Prelude.{◌≡◌, ◌⊎◌, ◌≤◌, [], length, IfOk, IfErr, OnOk, OnErr, IsErrOf, IsSome, None, true, encode_utf8_all};
 ghost use Rattle.std.specs.Bool.{MatchBool};
-ghost use Rattle.lt_definitions.specs.Items.{Context, with_item};
+ghost use Rattle.lt_definitions.specs.Items.{Context, empty, with_item};
 ghost use Rattle.lt_definitions.specs.Theory.{refusal};
 ghost use Rattle.lt_definitions.specs.Printing.{summary_line};
 ghost use Rattle.lt_definitions.specs.Walks.{plain_limit};
@@ -9,6 +9,7 @@ ghost use Rattle.lt_hol.specs.Items.{item_of};
 ghost use Rattle.lt_io.specs.Causes.{Rose};
 ghost use Rattle.lt_io.specs.Written.{Grew, GrewByFront};
 ghost use Rattle.lt_syntax.specs.ItemText.{line_of_counts};
+ghost use Rattle.lt_theory.specs.Small.{is_small};
 ghost use Rattle.lt_theory.specs.Standing.{StandsFor};
 ghost use Rattle.lt_run.specs.Reports.{IsReported, IsCutShort};
 ghost use Rattle.lt_run.specs.Walking.{IsOfForm};
@@ -54,36 +55,44 @@ pub(crate) fn walk_text<O: Sink>(alloc: Global, text: &[u8], out: &mut O) -> Res
     if !is_of_form(alloc, text)? {
         return Ok(Ending::NotBuilt);
     }
-    walk_items(alloc, text, out)
+    let mut theory = Theory::new(alloc)?;
+    walk_items(alloc, text, &mut theory, out)
 }
 
-/// Walks through a text that is of the form.
-fn walk_items<O: Sink>(alloc: Global, text: &[u8], out: &mut O) -> Result<Ending, Cut>
+/// Walks through a text that is of the form, with a theory that has no item yet.
+fn walk_items<O: Sink>(
+    alloc: Global,
+    text: &[u8],
+    theory: &mut Theory,
+    out: &mut O,
+) -> Result<Ending, Cut>
     requires short { length text.now ≤ plain_limit }
     requires form { IsOfForm text.now }
+    requires stands { StandsFor empty theory.old }
     ensures ended { IfOk result (λ ending. IsReported text.now ending (O.written out.old) (O.written out.new)) }
     ensures cut { IfErr result (λ _. IsCutShort text.now (O.written out.old) (O.written out.new)) }
     ensures fault { IsErrOf result Cut.Fault → Rose (O.faults out.old) (O.faults out.new) }
     ensures later { O.faults out.old ≤ O.faults out.new }
 {
     let mut reader = open_text(alloc, text)?;
-    let mut theory = Theory::new(alloc)?;
     let mut counts = Counts::none();
     'items: loop {
         let Some((item, rest)) = take_item(alloc, reader)? else {
             return finish(alloc, counts, out);
         };
-        if !accepts(alloc, &mut theory, &item)? {
+        if !accepts(alloc, theory, &item)? {
             return Ok(Ending::AtItem(counts.items + 1));
         }
         report_item(alloc, &item, out)?;
         counts = counts.with(&item);
+        drop(item);
         reader = rest;
     }
 }
 
 /// Adds an item to a theory where it is valid over the items before it, and says whether it is.
 fn accepts(alloc: Global, theory: &mut Theory, item: &Item) -> Result<bool, Memory>
+    requires { is_small (item_of item.now) ≡ true }
     ensures { (ctx : Context) → StandsFor ctx theory.old → IfOk result (λ valid. MatchBool valid
         ((refusal ctx (item_of item.now) ≡ None) × StandsFor (with_item ctx (item_of item.now)) theory.new)
         (IsSome (refusal ctx (item_of item.now)))) }

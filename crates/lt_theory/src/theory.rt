@@ -1,7 +1,8 @@
 //! The theory that items make.
-ghost use Rattle.std.specs.Prelude.{IfOk};
+ghost use Rattle.std.specs.Prelude.{◌≡◌, true, IfOk};
 ghost use Rattle.lt_definitions.specs.Items.{Context, empty};
 ghost use Rattle.lt_hol.specs.Items.{item_of};
+ghost use Rattle.lt_theory.specs.Small.{is_small};
 ghost use Rattle.lt_theory.specs.Standing.{StandsFor, Adds};
 
 use lt_hol::{Item, Signature};
@@ -26,7 +27,8 @@ pub struct Theory {
 
 impl Model for Theory {
     ghost use Rattle.lt_hol.specs.Codes.{coded_signature};
-    ghost use Rattle.lt_theory.specs.Standing.{State};
+    ghost use Rattle.lt_theory.specs.Small.{is_small};
+ghost use Rattle.lt_theory.specs.Standing.{State};
 
     ghost Value = { State };
 
@@ -45,6 +47,7 @@ impl Theory {
 
     /// Adds an item where it is valid over the items before it.
     pub fn add_item(&mut self, alloc: Global, item: &Item) -> Result<(), Fault>
+        requires { is_small (item_of item.now) ≡ true }
         ensures { (ctx : Context) → StandsFor ctx self.old → Adds ctx (item_of item.now) self.new result }
     {
         Err(Fault::Memory)
