@@ -4,3 +4,4 @@ pub mod Lengths
 pub mod Fronts
 pub mod WalkEnds
 pub mod OnTheWay
+pub mod Told

@@ -3,7 +3,7 @@ use Rattle.std.proofs.Common.{◌≡◌, ℕ, ◌+◌, ◌<◌, ◌≤◌, true,
 use Rattle.std.specs.Prelude.{IsSome, Result, Ok, Err, IfOk, IfErr, OnErr, encode_utf8_all, count_by}
 use Rattle.std.proofs.lemmas.List.Sums.{count_by-le-length}
 use Rattle.lt_definitions.specs.declared.walks.Ending.{Ending}
-use Rattle.lt_definitions.specs.declared.walks.Ending.TheVariants.{Accepted, AtItem}
+use Rattle.lt_definitions.specs.declared.walks.Ending.TheVariants.{Accepted, NotBuilt, AtItem}
 use Rattle.lt_definitions.specs.Items.{Item, Context, empty, with_item, context_of}
 use Rattle.lt_definitions.specs.Theory.{refusal, IsPlainTheory}
 use Rattle.lt_definitions.specs.Printing.{is_axiom, is_lemma, summary_line, count_line}
@@ -14,7 +14,7 @@ use Rattle.lt_definitions.specs.Walks.{plain_limit, Walk, reported}
 use Rattle.lt_io.specs.Written.{Grew, GrewByFront}
 use Rattle.lt_io.proofs.WriteLemmas.{Grew-append}
 use Rattle.lt_items.specs.NextItem.{NextItem}
-use Rattle.lt_reader.specs.Reading.{Begins, AtEnd}
+use Rattle.lt_reader.specs.Reading.{Begins, AtEnd, HasNoItems}
 use Rattle.lt_reader.proofs.WholeTexts.{header_begins, item_goes_on, end_has_items, rest_has_items}
 use Rattle.lt_syntax.specs.ItemText.{line_of_counts}
 use Rattle.lt_theory.specs.Small.{is_small}
@@ -26,7 +26,7 @@ use Rattle.lt_run.specs.Walking.{IsOfForm, IsLeftOfForm, HasCome}
 use Rattle.lt_run.specs.Reports.{IsReported, IsCutShort}
 use Rattle.lt_run.proofs.Fronts.{Grew-none, front_none, front_all, front_behind, front_longer}
 use Rattle.lt_run.proofs.Lengths.{begins_few, text_shortens}
-use Rattle.lt_run.proofs.WalkEnds.{context_more, valid_more, lines_of, lines_more, reported_accepted, reported_at, walk_accepted, walk_at, IsEnd, ends}
+use Rattle.lt_run.proofs.WalkEnds.{context_more, valid_more, lines_of, lines_more, reported_accepted, reported_at, reported_none, walk_accepted, walk_not_built, walk_at, IsEnd, ends}
 
 -- some items of the text were accepted, and their lines were written
 pub record IsOnWay (text : List ℕ) (s : Left) (state : State) (counts : Counts) (before now : Option (List ℕ)) : Type 0 where
@@ -87,6 +87,11 @@ cut text items s a b short (all, has) begins valid front =
     let end = ends text items later.0 short later.1 valid in
     let w = end.2 in
     (items ++ end.0, end.1, w.walk, subst (λ (z : List ℕ). GrewByFront a b z) (sym w.lines) (front_longer a b (lines_of items) w.rest front))
+
+-- nothing is written of a text that isn't of the form
+pub not_built : (text : List ℕ) (a : Option (List ℕ)) → length text ≤ plain_limit → HasNoItems text → IsReported text NotBuilt a a
+unfolding IsReported
+not_built text a short none = ([], walk_not_built text short none, subst (λ (z : List ℕ). Grew a a z) (sym reported_none) (Grew-none a))
 
 -- nothing was written yet
 pub nothing_yet : (text : List ℕ) (a : Option (List ℕ)) → length text ≤ plain_limit → IsOfForm text → IsCutShort text a a
