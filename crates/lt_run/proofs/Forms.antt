@@ -1,14 +1,13 @@
 -- What the reader's answers say of a text.
-use Rattle.std.proofs.Common.{◌≡◌, ap, sym, subst, Bool, true, false, List, [], ◌∷◌, ◌++◌, Result, Ok, Err, Option, Some, None, ℕ}
+use Rattle.std.proofs.Common.{◌≡◌, Bool, true, false, List, [], ◌∷◌, ◌++◌, Result, Ok, Err, ℕ}
 use Rattle.std.specs.Prelude.{IfOk}
 use Rattle.std.specs.Bool.{MatchBool}
 use Rattle.lt_definitions.specs.Items.{Item}
 use Rattle.lt_definitions.specs.Texts.{Left, left_of}
-use Rattle.lt_definitions.specs.PlainTexts.{ItemText, item_of_text, HasItems}
-use Rattle.lt_items.specs.NextItem.{NextItem}
+use Rattle.lt_definitions.specs.PlainTexts.{item_of_text}
 use Rattle.lt_reader.specs.declared.symbol.Instruction.{Instruction}
 use Rattle.lt_reader.specs.declared.unread.Unread.{Unread}
-use Rattle.lt_reader.specs.Reading.{IsWhole, IsRest, Fails, NextText, NextNotes, Begins, HasNoItems, IsOfText}
+use Rattle.lt_reader.specs.Reading.{IsWhole, IsRest, Fails, NextNotes, Begins, HasNoItems, IsOfText}
 use Rattle.lt_reader.proofs.WholeTexts.{item_goes_on, fault_has_no_items, no_header_has_no_items}
 use Rattle.lt_run.specs.Walking.{IsOfForm, IsLeftOfForm}
 

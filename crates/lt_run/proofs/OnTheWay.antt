@@ -1,5 +1,5 @@
 -- A walk on its way: its begin, its next step, and each way in which it stops.
-use Rattle.std.proofs.Common.{◌≡◌, ℕ, ◌+◌, ◌<◌, ◌≤◌, true, List, [], ◌∷◌, ◌++◌, length, refl, sym, ap, ◌∙◌, subst, arith, Option, Some, None, append_assoc}
+use Rattle.std.proofs.Common.{◌≡◌, ℕ, ◌+◌, ◌<◌, ◌≤◌, true, List, [], ◌∷◌, ◌++◌, length, refl, sym, ap, ◌∙◌, subst, arith, Option, None, append_assoc}
 use Rattle.std.specs.Prelude.{IsSome, Result, Ok, Err, IfOk, IfErr, OnErr, encode_utf8_all, count_by}
 use Rattle.std.proofs.lemmas.List.Sums.{count_by-le-length}
 use Rattle.lt_definitions.specs.declared.walks.Ending.{Ending}
@@ -10,7 +10,7 @@ use Rattle.lt_definitions.specs.Printing.{is_axiom, is_lemma, summary_line, coun
 use Rattle.lt_definitions.specs.Lexemes.{Spans}
 use Rattle.lt_definitions.specs.PlainTexts.{ItemText, type_text, const_text, axiom_text, lemma_text, item_of_text, header, part_lexemes, HasItems}
 use Rattle.lt_definitions.specs.Texts.{Left, left_of}
-use Rattle.lt_definitions.specs.Walks.{plain_limit, Walk, reported}
+use Rattle.lt_definitions.specs.Walks.{plain_limit, reported}
 use Rattle.lt_io.specs.Written.{Grew, GrewByFront}
 use Rattle.lt_io.proofs.WriteLemmas.{Grew-append}
 use Rattle.lt_items.specs.NextItem.{NextItem}
@@ -26,7 +26,7 @@ use Rattle.lt_run.specs.Walking.{IsOfForm, IsLeftOfForm, HasCome}
 use Rattle.lt_run.specs.Reports.{IsReported, IsCutShort}
 use Rattle.lt_run.proofs.Fronts.{Grew-none, front_none, front_all, front_behind, front_longer}
 use Rattle.lt_run.proofs.Lengths.{begins_few, text_shortens}
-use Rattle.lt_run.proofs.WalkEnds.{context_more, valid_more, lines_of, lines_more, reported_accepted, reported_at, reported_none, walk_accepted, walk_not_built, walk_at, IsEnd, ends}
+use Rattle.lt_run.proofs.WalkEnds.{context_more, valid_more, lines_of, lines_more, reported_accepted, reported_at, reported_none, walk_accepted, walk_not_built, walk_at, ends}
 
 -- some items of the text were accepted, and their lines were written
 pub record IsOnWay (text : List ℕ) (s : Left) (state : State) (counts : Counts) (before now : Option (List ℕ)) : Type 0 where

@@ -1,7 +1,7 @@
 -- What the statuses say of the named file's text.
-use Rattle.std.proofs.Common.{◌≡◌, ◌≢◌, ◌⊎◌, inl, inr, ℕ, zero, suc, ◌+◌, ◌<◌, ◌≤◌, List, [], ◌∷◌, ◌++◌, length, Option, Some, None, refl, sym, ◌∙◌, ap, subst, arith, length-append}
+use Rattle.std.proofs.Common.{◌≡◌, ◌⊎◌, inl, inr, ℕ, zero, suc, ◌<◌, List, [], ◌∷◌, ◌++◌, length, Option, Some, None, refl, ◌∙◌, ap, subst, arith, length-append}
 use Rattle.lt_definitions.specs.declared.walks.Ending.{Ending}
-use Rattle.lt_definitions.specs.declared.walks.Ending.TheVariants.{Accepted, TooLong}
+use Rattle.lt_definitions.specs.declared.walks.Ending.TheVariants.{TooLong}
 use Rattle.lt_definitions.specs.Walks.{plain_limit, Walk, reported, error_line}
 use Rattle.lt_io.specs.Files.{Files, HoldsFile}
 use Rattle.lt_io.specs.Written.{Grew}

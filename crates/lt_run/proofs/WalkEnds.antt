@@ -1,10 +1,10 @@
 -- How a walk goes on and how it ends.
-use Rattle.std.proofs.Common.{◌≡◌, ℕ, ◌+◌, ◌<◌, ◌≤◌, List, [], ◌∷◌, ◌++◌, length, refl, sym, ap, ◌∙◌, subst, arith, Option, Some, None, append_assoc, append-nil}
-use Rattle.std.specs.Prelude.{IsSome, codes, encode_utf8_all, flat_map}
+use Rattle.std.proofs.Common.{◌≡◌, ℕ, ◌+◌, ◌≤◌, List, [], ◌∷◌, ◌++◌, length, refl, sym, ap, ◌∙◌, subst, Option, Some, None, append_assoc, append-nil}
+use Rattle.std.specs.Prelude.{IsSome, encode_utf8_all}
 use Rattle.std.proofs.lemmas.Str.{encodes-append}
 use Rattle.std.proofs.lemmas.Grind.{flat_map-append}
 use Rattle.lt_definitions.specs.declared.walks.Ending.{Ending}
-use Rattle.lt_definitions.specs.declared.walks.Ending.TheVariants.{Accepted, TooLong, NotBuilt, AtItem}
+use Rattle.lt_definitions.specs.declared.walks.Ending.TheVariants.{Accepted, NotBuilt, AtItem}
 use Rattle.lt_definitions.specs.Items.{Item, Context, empty, with_item, context_of}
 use Rattle.lt_definitions.specs.Theory.{Refusal, refusal, AreValid, IsPlainTheory}
 use Rattle.lt_definitions.specs.Printing.{summary_line, summary_lines, count_line}

@@ -1,5 +1,5 @@
 -- Statuses of the whole call are those of the file's text, once the words are accepted.
-use Rattle.std.proofs.Common.{rules, ◌≡◌, codes, ◌∷◌, [], inl, inr}
+use Rattle.std.proofs.Common.{rules, ◌≡◌, codes, ◌∷◌, []}
 use Rattle.lt_run.proofs.Lists.{two_items}
 use Rattle.lt_run.proofs.Told.{stops_by_words}
 use Rattle.lt_run.proofs.run.lt.Goals as goal

@@ -1,5 +1,5 @@
 -- The text is the file with a line feed behind it.
-use Rattle.std.proofs.Common.{◌≡◌, ◌++◌, ◌∷◌, [], ◌≤◌, length, arith, length-append, ap}
+use Rattle.std.proofs.Common.{◌≡◌, ◌++◌, ◌∷◌, [], length, arith, length-append, ap}
 use Rattle.std.proofs.lemmas.Grind.{common_steps}
 use Rattle.lt_run.proofs.Told.{text_made, text_too_long}
 use Rattle.lt_run.proofs.run.read_text.Goals as goal

@@ -1,5 +1,5 @@
 -- Items are accepted one after another, until the text is at its end, one is refused, or the walk is cut short.
-use Rattle.std.proofs.Common.{◌≡◌, ℕ, ◌+◌, ◌≤◌, arith, refl}
+use Rattle.std.proofs.Common.{arith, refl}
 use Rattle.lt_run.proofs.OnTheWay.{begun, nothing_yet, stopped, stopped_in_line, refused, finished, not_finished, left_of_form, left_behind, next_small, goes_on, few, on_error}
 use Rattle.lt_run.proofs.walk.walk_items.Goals as goal
 
