@@ -1,0 +1,4 @@
+pub mod Reasons
+pub mod Sequents
+pub mod Lines
+pub mod State
