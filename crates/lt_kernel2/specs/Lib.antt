@@ -2,3 +2,4 @@ pub mod Reasons
 pub mod Sequents
 pub mod Lines
 pub mod State
+pub mod Shapes
