@@ -14,6 +14,7 @@ mod signature;
 mod term;
 mod term_builder;
 mod type_fault;
+mod type_of;
 
 pub use bound_names::{Binder, binders};
 pub use form_part::{PropertyPart, QuotientPart, RelatorPart, RulePart};

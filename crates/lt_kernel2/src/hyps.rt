@@ -18,12 +18,7 @@ pub fn one(alloc: Global, p: Id) -> Result<Ids, Memory>
 }
 
 /// Whether a term alpha-equal to `p` is in the list.
-fn has_term<S: TermStore>(
-    alloc: Global,
-    store: &S,
-    p: Id,
-    ids: &[Id],
-) -> Result<bool, Memory>
+fn has_term<S: TermStore>(alloc: Global, store: &S, p: Id, ids: &[Id]) -> Result<bool, Memory>
     requires p { p < length (S.nodes store.now) }
     requires ids { AllBelow (length (S.nodes store.now)) ids.now }
     ensures { IfOk result (λ yes. yes ≡ list_any (same_nameless (tree_at (S.nodes store.now) p)) (trees (S.nodes store.now) ids.now)) }
@@ -37,12 +32,7 @@ fn has_term<S: TermStore>(
 }
 
 /// The hypotheses that aren't alpha-equal to `p`.
-pub fn without<S: TermStore>(
-    alloc: Global,
-    store: &S,
-    p: Id,
-    hyps: &[Id],
-) -> Result<Ids, Memory>
+pub fn without<S: TermStore>(alloc: Global, store: &S, p: Id, hyps: &[Id]) -> Result<Ids, Memory>
     requires p { p < length (S.nodes store.now) }
     requires hyps { AllBelow (length (S.nodes store.now)) hyps.now }
     ensures within { IfOk result (AllBelow (length (S.nodes store.now))) }
@@ -59,12 +49,7 @@ pub fn without<S: TermStore>(
 }
 
 /// The hypotheses `hyps`, then those of `more` that aren't alpha-equal to an earlier one.
-pub fn union<S: TermStore>(
-    alloc: Global,
-    store: &S,
-    hyps: Ids,
-    more: &[Id],
-) -> Result<Ids, Memory>
+pub fn union<S: TermStore>(alloc: Global, store: &S, hyps: Ids, more: &[Id]) -> Result<Ids, Memory>
     requires hyps { AllBelow (length (S.nodes store.now)) hyps }
     requires more { AllBelow (length (S.nodes store.now)) more.now }
     ensures within { IfOk result (AllBelow (length (S.nodes store.now))) }

