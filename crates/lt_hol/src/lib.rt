@@ -1,6 +1,7 @@
 //! Names, types, terms and signatures of higher-order logic.
 #![tactic(auto)]
 
+mod bound_names;
 mod check_type;
 mod form_part;
 mod item;
@@ -13,7 +14,9 @@ mod signature;
 mod term;
 mod term_builder;
 mod type_fault;
+mod type_of;
 
+pub use bound_names::{Binder, binders};
 pub use form_part::{PropertyPart, QuotientPart, RelatorPart, RulePart};
 pub use item::Item;
 pub use line::Line;

@@ -1,6 +1,12 @@
 //! Items of plain texts, made of what a reader noted down of them.
 #![tactic(auto)]
 
-mod reading;
+mod item;
+mod line_maker;
+mod lines;
+mod next;
+mod terms;
+mod types;
 
-pub use reading::next_item;
+pub use item::item_of_notes;
+pub use next::next_item;

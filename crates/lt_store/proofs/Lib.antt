@@ -5,3 +5,4 @@ pub mod Comparisons
 pub mod Images
 pub mod Tasks
 pub mod Lists
+pub mod StoredTerms

