@@ -1,11 +1,14 @@
 -- What the statuses say of the named file's text.
-use Rattle.std.proofs.Common.{◌≡◌, ◌⊎◌, inl, inr, ℕ, zero, suc, ◌<◌, List, [], ◌∷◌, ◌++◌, length, Option, Some, None, refl, ◌∙◌, ap, subst, arith, length-append}
+use Rattle.std.proofs.Common.{◌≡◌, ◌⊎◌, inl, inr, ℕ, zero, suc, ◌<◌, List, [], ◌∷◌, ◌++◌, length, Option, Some, None, refl, sym, ◌≢◌, ◌∙◌, ap, subst, arith, length-append}
+use Rattle.std.specs.Prelude.{IsSome}
+use Rattle.lt_definitions.specs.Items.{Item}
+use Rattle.lt_definitions.proofs.OneEnding.{one_ending}
 use Rattle.lt_definitions.specs.declared.walks.Ending.{Ending}
-use Rattle.lt_definitions.specs.declared.walks.Ending.TheVariants.{TooLong}
+use Rattle.lt_definitions.specs.declared.walks.Ending.TheVariants.{Accepted, TooLong}
 use Rattle.lt_definitions.specs.Walks.{plain_limit, Walk, reported, error_line}
-use Rattle.lt_io.specs.Files.{Files, HoldsFile}
+use Rattle.lt_io.specs.Files.{Files, HoldsFile, StaysSame, StaysTold}
 use Rattle.lt_io.specs.Written.{Grew}
-use Rattle.lt_run.specs.Reports.{IsTextOf, IsReported, IsCutShort, Ends, Stops}
+use Rattle.lt_run.specs.Reports.{HasText, IsTextOf, IsReported, IsCutShort, Ends, Stops}
 use Rattle.lt_run.specs.Words.{AreWords}
 use Rattle.lt_run.proofs.Fronts.{Grew-none, front_all}
 
@@ -61,3 +64,47 @@ pub stops_by_words : (files : Option Files) (words : List (List ℕ)) (file : Li
     → Grew out out' [] ⊎ ((f : List ℕ) × AreWords words f × Stops files f out out')
 stops_by_words files words file out out' are (inl none) = inl none
 stops_by_words files words file out out' are (inr stops) = inr (file, are, stops)
+
+-- ---- where nothing fails
+
+same-bytes : (o : Option (List ℕ)) (x y : List ℕ) → o ≡ Some x → o ≡ Some y → x ≡ y
+same-bytes o x y e f = let both : Some x ≡ Some y = sym e ∙ f in cc both
+
+is-told : (held : Option (List ℕ)) (bytes : List ℕ) → held ≡ Some bytes → IsSome held
+is-told held bytes e = subst (λ (z : Option (List ℕ)). IsSome z) (sym e) refl
+
+-- what is told behind the call is the text that was told before
+one_text : (files files' : Option Files) (file text other : List ℕ) → StaysSame files files' → StaysTold files files' file → HasText files file text → IsTextOf files' file other → text ≡ other
+unfolding HasText IsTextOf
+one_text None files' file text other same told (held, bytes, e, f, t) is = absurd (cc e)
+one_text (Some before) None file text other same told (held, bytes, e, f, t) is =
+    let agree : before ≡ held = cc e in
+    let lost : IsSome {T = Files} None = told (subst (λ (z : Files). IsSome (z file)) (sym agree) (is-told (held file) bytes f)) in
+    absurd (cc lost)
+one_text (Some before) (Some now) file text other same told (held, bytes, e, f, t) (bytes', f', t') =
+    let agree : held ≡ now = cc (e, same) in
+    let one : bytes ≡ bytes' = same-bytes (now file) bytes bytes' (subst (λ (z : Files). z file ≡ Some bytes) agree f) f' in
+    t ∙ ap (λ (z : List ℕ). z ++ 10 ∷ []) one ∙ sym t'
+
+-- a text that is accepted isn't refused
+pub not_refused : (files files' : Option Files) (words : List (List ℕ)) (file text : List ℕ) (items : List Item) (out out' err err' : Option (List ℕ))
+    → StaysSame files files' → StaysTold files files' file → AreWords words file → HasText files file text → Walk text items Accepted
+    → (f : List ℕ) × (ending : Ending) × AreWords words f × (ending ≢ Accepted) × Ends files' f ending out out' err err' → ⊥
+unfolding Ends IsReported
+not_refused files files' words file text items out out' err err' same told are has walk (f, ending, are', wrong, (other, is, (items', walk', grew), line)) =
+    let named : f ≡ file = cc (are, are') in
+    let one : text ≡ other = one_text files files' file text other same told has (subst (λ (z : List ℕ). IsTextOf files' z other) named is) in
+    let both = one_ending other items items' Accepted ending (subst (λ (z : List ℕ). Walk z items Accepted) one walk) walk' in
+    wrong (sym both.1)
+
+pub accepts_valid : (status : ℕ) (files files' : Option Files) (words : List (List ℕ)) (file text : List ℕ) (items : List Item) (out out' err err' : Option (List ℕ))
+    → StaysSame files files' → ((g : List ℕ) → AreWords words g → StaysTold files files' g) → AreWords words file → HasText files file text → Walk text items Accepted
+    → (status ≡ 0) ⊎ (status ≡ 1) ⊎ (status ≡ 2) ⊎ (status ≡ 5)
+    → (status ≡ 1 → (f : List ℕ) × (ending : Ending) × AreWords words f × (ending ≢ Accepted) × Ends files' f ending out out' err err')
+    → (status ≡ 2 → (g : List ℕ) → AreWords words g → ⊥)
+    → (status ≡ 0) ⊎ (status ≡ 5)
+accepts_valid status files files' words file text items out out' err err' same told are has walk (inl accepted) refused other = inl accepted
+accepts_valid status files files' words file text items out out' err err' same told are has walk (inr (inl one)) refused other =
+    absurd (not_refused files files' words file text items out out' err err' same (told file are) are has walk (refused one))
+accepts_valid status files files' words file text items out out' err err' same told are has walk (inr (inr (inl two))) refused other = absurd (other two file are)
+accepts_valid status files files' words file text items out out' err err' same told are has walk (inr (inr (inr five))) refused other = inr five

@@ -1,5 +1,5 @@
 -- What the sinks got.
-use Rattle.std.specs.Prelude.{◌≡◌, ℕ, List, [], ◌∷◌, ◌++◌, codes, Option}
+use Rattle.std.specs.Prelude.{◌≡◌, ℕ, List, [], ◌∷◌, ◌++◌, codes, Option, Some}
 use Rattle.lt_definitions.specs.Items.{Item}
 use Rattle.lt_definitions.specs.Walks.{joined, Walk, reported, error_line}
 use Rattle.lt_definitions.specs.declared.walks.Ending.{Ending}
@@ -9,6 +9,10 @@ use Rattle.lt_io.specs.Written.{Grew, GrewByFront}
 -- the text is that of the named file, where the files are told
 unfoldable pub IsTextOf : Option Files → List ℕ → List ℕ → Type 0
 IsTextOf files file text = HoldsFile files file (λ bytes. text ≡ joined (bytes ∷ []))
+
+-- the files are told, and the text is that of the named one
+unfoldable pub HasText : Option Files → List ℕ → List ℕ → Type 0
+HasText files file text = (held : Files) × (bytes : List ℕ) × (files ≡ Some held) × (held file ≡ Some bytes) × (text ≡ joined (bytes ∷ []))
 
 -- the walk through the text ended so, and the sink got what is reported of it
 unfoldable pub IsReported : List ℕ → Ending → Option (List ℕ) → Option (List ℕ) → Type 0

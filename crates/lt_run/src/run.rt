@@ -3,7 +3,7 @@ ghost use Rattle.std.specs.Prelude.{◌≡◌, ◌≢◌, ◌≤◌, ◌<◌, �
 ghost use Rattle.lt_definitions.specs.declared.walks.Ending.{Ending};
 ghost use Rattle.lt_definitions.specs.Walks.{plain_limit, error_line};
 ghost use Rattle.lt_io.specs.Causes.{Rose};
-ghost use Rattle.lt_io.specs.Files.{StaysTold};
+ghost use Rattle.lt_io.specs.Files.{StaysSame, StaysTold};
 ghost use Rattle.lt_io.specs.Written.{Grew};
 ghost use Rattle.lt_run.specs.Reports.{IsTextOf, IsReported, IsCutShort, Ends, Stops, read_fault_line};
 ghost use Rattle.lt_run.specs.Words.{AreWords, usage};
@@ -41,6 +41,7 @@ pub fn lt<L: Library, O: Sink, E: Sink>(
     // Where a write failed or memory ran out, the summary stands as far as it came.
     ensures front { (result ≡ 4) ⊎ (result ≡ 5) → Grew (O.written out.old) (O.written out.new) []
         ⊎ ((file : List ℕ) × AreWords words.now file × Stops (L.files lib.new) file (O.written out.old) (O.written out.new)) }
+    ensures same { StaysSame (L.files lib.old) (L.files lib.new) }
     // No other file is read: where the files are told and have the one that is named, they are told behind.
     ensures told { (file : List ℕ) → AreWords words.now file → StaysTold (L.files lib.old) (L.files lib.new) file }
 {
@@ -115,6 +116,7 @@ fn read_text<L: Library>(alloc: Global, file: &str, lib: &mut L) -> Result<Vec<u
     ensures short { IfOk result (λ text. length text.items ≤ plain_limit) }
     ensures too_long { IsErrOf result ReadFault.TooLong → (text : List ℕ) × IsTextOf (L.files lib.new) file.now text × (plain_limit < length text) }
     ensures fault { IsErrOf result ReadFault.Fault → Rose (L.faults lib.old) (L.faults lib.new) }
+    ensures same { StaysSame (L.files lib.old) (L.files lib.new) }
     ensures told { StaysTold (L.files lib.old) (L.files lib.new) file.now }
 {
     let mut text = match read_all(alloc, lib, file, MOST) {
@@ -144,6 +146,7 @@ fn check_file<L: Library, O: Sink, E: Sink>(
     ensures write { result ≡ 4 → Rose (O.faults out.old) (O.faults out.new) ⊎ Rose (E.faults err.old) (E.faults err.new) }
     ensures front { (result ≡ 4) ⊎ (result ≡ 5) → Grew (O.written out.old) (O.written out.new) []
         ⊎ Stops (L.files lib.new) file.now (O.written out.old) (O.written out.new) }
+    ensures same { StaysSame (L.files lib.old) (L.files lib.new) }
     ensures told { StaysTold (L.files lib.old) (L.files lib.new) file.now }
 {
     match read_text(alloc, file, lib) {
