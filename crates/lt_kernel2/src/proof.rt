@@ -1,5 +1,5 @@
 //! What a theory has declared and stated, and the lines of a derivation, over a store of terms.
-ghost use Rattle.std.specs.Prelude.{◌≡◌, ◌<◌, [], length, take, None, IfOk};
+ghost use Rattle.std.specs.Prelude.{◌≡◌, ◌<◌, [], length, take, None, IfOk, IfSome};
 ghost use Rattle.std.specs.Option.{option_copied, option_map};
 ghost use Rattle.lt_definitions.specs.Types.{bool};
 ghost use Rattle.lt_definitions.specs.Rules.{line_at};
@@ -8,6 +8,7 @@ ghost use Rattle.lt_hol.specs.Faults.{DeclaresType, DeclaresConst, cut};
 ghost use Rattle.lt_hol.specs.declared.line.Line.TheVariants as line;
 ghost use Rattle.lt_store.specs.Trees.{tree_at};
 ghost use Rattle.lt_kernel2.specs.Lines.{IsGoodLine};
+ghost use Rattle.lt_kernel2.specs.Sequents.{IsWithin};
 ghost use Rattle.lt_kernel2.specs.State.{sequents, statements, step_of, Answers, Keeps, Names};
 ghost use Rattle.lt_definitions.specs.Nameless.{nameless, IsWhole};
 
@@ -112,7 +113,8 @@ impl<S: TermStore + Drop> Proof<S> {
 
     /// The sequent of the line with a number; None where there is no such line.
     pub fn sequent(&self, number: usize) -> Option<&Sequent>
-        ensures { option_copied result ≡ option_map (λ s. s.sequent) (line_at self.now.steps number) }
+        ensures within { IfSome result (λ s. IsWithin (length self.now.nodes) s.now) }
+        ensures is { option_copied result ≡ option_map (λ s. s.sequent) (line_at self.now.steps number) }
     {
         match step_at(self.steps.as_slice(), number) {
             Some(step) => Some(&step.sequent),
