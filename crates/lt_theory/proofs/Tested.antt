@@ -85,22 +85,7 @@ by-conclusion t (Some s) q r nodes id same h e n i k =
     (λ yes. k.1 (sym concl ∙ (alpha_is_nameless s.concl t).0 ((alpha_is_tested s.concl t).0 yes) ∙ sym i))
     ∙ sym (no-hyps s.hyps (is_alpha s.concl t) (hyps-count s r nodes one ∙ n))
 
--- ---- the tests of axioms and lemmas
-
-some-first : (o : Option Refusal) (later : List (Option Refusal)) → IsSome o → IsSome (first_of (o ∷ later))
-some-first (Some r) later h = refl
-some-first None later h = absurd (cc h)
-
-some-later : (o : Option Refusal) (later : List (Option Refusal)) → IsSome (first_of later) → IsSome (first_of (o ∷ later))
-some-later (Some r) later h = refl
-some-later None later h = h
-
--- the tests of a statement alone are among those of an item
-among : (a b c : Option Refusal) (later : List (Option Refusal)) → IsSome (first_of (a ∷ c ∷ [])) → IsSome (first_of (a ∷ b ∷ c ∷ later))
-among (Some r) b c later h = refl
-among None (Some r) c later h = refl
-among None None (Some r) later h = refl
-among None None None later h = absurd (cc h)
+-- ---- statements
 
 both-none : (a c : Option Refusal) → first_of (a ∷ c ∷ []) ≡ None → (a ≡ None) × (c ≡ None)
 both-none (Some r) c h = absurd (cc h)
@@ -114,49 +99,3 @@ boolean-typed (Err f) h = absurd (cc h)
 -- a tested statement has its binders
 pub whole-statement : (sig : Signature) (t : TermTree) → statement_tests sig t ≡ None → IsWhole 0 (nameless [] t)
 whole-statement sig t h = whole-term sig t (boolean-typed (typed sig [] t) (both-none (boolean_test (typed sig [] t)) (closed_test t) h).0)
-
-pub axiom-untested : (ctx : Context) (sig : Signature) (l : Chars) (t : TermTree) → sig ≡ ctx.signature → IsSome (statement_tests sig t) → IsSome (refusal ctx (axiom_item l t))
-axiom-untested ctx sig l t e h =
-    among (statement_test ctx t) (new_name ctx.statements l) (closed_test t) [] (subst (λ (sig : Signature). IsSome (statement_tests sig t)) e h)
-
-pub lemma-untested : (ctx : Context) (sig : Signature) (l : Chars) (t : TermTree) (rules : List Rule) → sig ≡ ctx.signature → IsSome (statement_tests sig t) → IsSome (refusal ctx (lemma_item l t rules))
-lemma-untested ctx sig l t rules e h =
-    among (statement_test ctx t) (new_name ctx.statements l) (closed_test t) (proof_test t (derived ctx.signature ctx.statements [] rules) ∷ [])
-    (subst (λ (sig : Signature). IsSome (statement_tests sig t)) e h)
-
-pub axiom-known : (ctx : Context) (l : Chars) (t : TermTree) → IsSome (new_name ctx.statements l) → IsSome (refusal ctx (axiom_item l t))
-axiom-known ctx l t h = some-later (statement_test ctx t) (new_name ctx.statements l ∷ closed_test t ∷ []) (some-first (new_name ctx.statements l) (closed_test t ∷ []) h)
-
-pub lemma-known : (ctx : Context) (l : Chars) (t : TermTree) (rules : List Rule) → IsSome (new_name ctx.statements l) → IsSome (refusal ctx (lemma_item l t rules))
-lemma-known ctx l t rules h =
-    let proof : Option Refusal = proof_test t (derived ctx.signature ctx.statements [] rules) in
-    some-later (statement_test ctx t) (new_name ctx.statements l ∷ closed_test t ∷ proof ∷ []) (some-first (new_name ctx.statements l) (closed_test t ∷ proof ∷ []) h)
-
-pub lemma-unproved : (ctx : Context) (l : Chars) (t : TermTree) (rules : List Rule) → IsSome (proof_test t (derived ctx.signature ctx.statements [] rules)) → IsSome (refusal ctx (lemma_item l t rules))
-lemma-unproved ctx l t rules h =
-    let proof : Option Refusal = proof_test t (derived ctx.signature ctx.statements [] rules) in
-    some-later (statement_test ctx t) (new_name ctx.statements l ∷ closed_test t ∷ proof ∷ [])
-    (some-later (new_name ctx.statements l) (closed_test t ∷ proof ∷ []) (some-later (closed_test t) (proof ∷ []) (some-first proof [] h)))
-
-pub axiom-accepted : (ctx : Context) (sig : Signature) (l : Chars) (t : TermTree) → sig ≡ ctx.signature → statement_tests sig t ≡ None → new_name ctx.statements l ≡ None
-    → refusal ctx (axiom_item l t) ≡ None
-axiom-accepted ctx sig l t e h n =
-    let tests = both-none (statement_test ctx t) (closed_test t) (subst (λ (sig : Signature). statement_tests sig t ≡ None) e h) in
-    λ i. first_of (tests.0 i ∷ n i ∷ tests.1 i ∷ [])
-
-pub lemma-accepted : (ctx : Context) (sig : Signature) (l : Chars) (t : TermTree) (rules : List Rule) → sig ≡ ctx.signature → statement_tests sig t ≡ None → new_name ctx.statements l ≡ None
-    → proof_test t (derived ctx.signature ctx.statements [] rules) ≡ None → refusal ctx (lemma_item l t rules) ≡ None
-lemma-accepted ctx sig l t rules e h n p =
-    let tests = both-none (statement_test ctx t) (closed_test t) (subst (λ (sig : Signature). statement_tests sig t ≡ None) e h) in
-    λ i. first_of (tests.0 i ∷ n i ∷ tests.1 i ∷ p i ∷ [])
-
--- lines that don't derive the statement
-pub line-fails : (t : TermTree) (e : ℕ × LineFault) (r : Result (List Sequent) (ℕ × LineFault)) → r ≡ Err e → IsSome (proof_test t r)
-line-fails t (n, ill_typed f) r h = ap (λ x. is_some (proof_test t x)) h
-line-fails t (n, no_step k) r h = ap (λ x. is_some (proof_test t x)) h
-
-pub last-fails : (t : TermTree) (done : List Sequent) (r : Result (List Sequent) (ℕ × LineFault)) → r ≡ Ok done → false ≡ is_proved t (last_of done) → IsSome (proof_test t r)
-last-fails t done r h e = ap (λ x. is_some (proof_test t x)) h ∙ ap (λ (b : Bool). is_some (refused_where (not b) (not_proved (last_of done)))) (sym e)
-
-pub last-proves : (t : TermTree) (done : List Sequent) (r : Result (List Sequent) (ℕ × LineFault)) → r ≡ Ok done → true ≡ is_proved t (last_of done) → proof_test t r ≡ None
-last-proves t done r h e = ap (proof_test t) h ∙ ap (λ (b : Bool). refused_where (not b) (not_proved (last_of done))) (sym e)
