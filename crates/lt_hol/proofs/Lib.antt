@@ -4,3 +4,5 @@ pub mod Lookups
 pub mod TypeFaults
 pub mod Places
 pub mod Replacements
+pub mod OpenBinders
+pub mod BinderPasses
