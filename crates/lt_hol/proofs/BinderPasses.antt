@@ -6,12 +6,11 @@ use Rattle.lt_hol.specs.declared.pending.Task.{Task}
 use Rattle.lt_hol.specs.declared.pending.Task.TheVariants.{Tree, Close}
 use Rattle.lt_hol.specs.declared.term.TermNode.{TermNode}
 use Rattle.lt_hol.specs.declared.term.TermNode.TheVariants.{Free, Bound, Const, App, Lam}
-use Rattle.lt_definitions.specs.Types.{Chars, TypeTree}
-use Rattle.lt_definitions.specs.Terms.{TermTree, free_variable, bound_name, constant, application, abstraction}
+use Rattle.lt_definitions.specs.Terms.{TermTree, free_variable, bound_name, constant}
 use Rattle.lt_hol.specs.Layout.{under, term_nodes, grow, HasRoom, forest, sizes}
 use Rattle.lt_hol.specs.BoundNames.{Places, binder_of, binders_in}
 use Rattle.lt_hol.specs.Scopes.{scopes_of, within, binder_at}
-use Rattle.lt_hol.proofs.Nodes.{step, whole, IsStep}
+use Rattle.lt_hol.proofs.Nodes.{step, IsStep}
 
 -- ---- the tasks of a pass
 

@@ -8,7 +8,7 @@ use Rattle.lt_hol.specs.declared.scope.Entered.{Entered}
 use Rattle.lt_hol.specs.declared.pending.Task.{Task}
 use Rattle.lt_hol.specs.declared.pending.Task.TheVariants.{Tree, Close}
 use Rattle.lt_hol.specs.declared.term.TermNode.{TermNode}
-use Rattle.lt_hol.specs.declared.term.TermNode.TheVariants.{Free, Bound, Const, App, Lam}
+use Rattle.lt_hol.specs.declared.term.TermNode.TheVariants.{Bound, App, Lam}
 use Rattle.lt_hol.specs.BoundNames.{Places, binder_of}
 
 -- the innermost binder of a name, as it was opened

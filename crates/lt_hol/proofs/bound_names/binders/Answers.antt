@@ -1,4 +1,4 @@
-use Rattle.std.proofs.Common.{◌≡◌, ◌∙◌, ◌+◌, ◌-◌, ◌<◌, ◌∷◌, [], sym, ap, subst, arith, length, take, reverse, List, Option, ℕ}
+use Rattle.std.proofs.Common.{◌≡◌, ◌∙◌, ◌-◌, [], sym, subst, arith, length, take, reverse, List, Option, ℕ}
 use Rattle.lt_hol.specs.declared.bound_names.Binder.{Binder}
 use Rattle.lt_hol.specs.Layout.{forest}
 use Rattle.lt_hol.proofs.Nodes.{whole}

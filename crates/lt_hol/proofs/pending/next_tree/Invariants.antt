@@ -1,4 +1,4 @@
-use Rattle.std.proofs.Common.{◌≡◌, length, reverse, vec_len}
+use Rattle.std.proofs.Common.{◌≡◌, reverse, vec_len}
 use Rattle.lt_hol.specs.Scopes.{scopes_of}
 use Rattle.lt_hol.proofs.pending.next_tree.Given as goal
 

@@ -1,5 +1,4 @@
-use Rattle.std.proofs.Common.{◌∙◌, ap, sym, arith, ◌-◌, ◌<◌, length, ℕ, Option, Some}
-use Rattle.lt_hol.specs.declared.bound_names.Binder.{Binder}
+use Rattle.std.proofs.Common.{◌∙◌, ap, sym, arith, ◌<◌, length, ℕ, Some}
 use Rattle.lt_hol.proofs.OpenBinders.{found-below, from_outside, binder-outside}
 use Rattle.lt_hol.proofs.scope.Scope.binder_of.Goals as goal
 
