@@ -6,3 +6,6 @@ pub mod Places
 pub mod Replacements
 pub mod OpenBinders
 pub mod BinderPasses
+pub mod NodeEquality
+pub mod DistinctTypes
+pub mod TypeNumbers

@@ -16,6 +16,7 @@ mod signature;
 mod term;
 mod term_builder;
 mod type_fault;
+mod type_table;
 
 pub use bound_names::{Binder, binders};
 pub use form_part::{PropertyPart, QuotientPart, RelatorPart, RulePart};
@@ -33,6 +34,7 @@ pub use signature::{SigMark, Signature};
 pub use term::{Term, TermNode};
 pub use term_builder::TermBuilder;
 pub use type_fault::TypeFault;
+pub use type_table::TypeTable;
 
 /// A list of terms.
 pub type Terms = List<Term>;
