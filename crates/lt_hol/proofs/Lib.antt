@@ -9,3 +9,5 @@ pub mod BinderPasses
 pub mod NodeEquality
 pub mod DistinctTypes
 pub mod TypeNumbers
+pub mod VariableNames
+pub mod ReadTypes

@@ -8,3 +8,5 @@ pub mod FreeNodes
 pub mod BoundNames
 pub mod Scopes
 pub mod TypeTables
+pub mod Instances
+pub mod Makings

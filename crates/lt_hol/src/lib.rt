@@ -4,11 +4,13 @@
 mod bound_names;
 mod check_type;
 mod form_part;
+mod instance;
 mod item;
 mod line;
 mod lines;
 mod pending;
 mod property;
+mod read_type;
 mod reason;
 mod replacing;
 mod scope;
@@ -17,6 +19,7 @@ mod term;
 mod term_builder;
 mod type_fault;
 mod type_table;
+mod type_variables;
 
 pub use bound_names::{Binder, binders};
 pub use form_part::{PropertyPart, QuotientPart, RelatorPart, RulePart};
