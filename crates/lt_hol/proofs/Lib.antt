@@ -11,3 +11,4 @@ pub mod DistinctTypes
 pub mod TypeNumbers
 pub mod VariableNames
 pub mod ReadTypes
+pub mod TypingSteps

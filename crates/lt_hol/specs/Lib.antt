@@ -10,3 +10,4 @@ pub mod Scopes
 pub mod TypeTables
 pub mod Instances
 pub mod Makings
+pub mod Outcomes

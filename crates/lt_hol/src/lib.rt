@@ -1,6 +1,7 @@
 //! Names, types, terms and signatures of higher-order logic.
 #![tactic(auto)]
 
+mod binder_types;
 mod bound_names;
 mod check_type;
 mod form_part;
@@ -8,6 +9,7 @@ mod instance;
 mod item;
 mod line;
 mod lines;
+mod outcome;
 mod pending;
 mod property;
 mod read_type;
@@ -20,6 +22,7 @@ mod term_builder;
 mod type_fault;
 mod type_table;
 mod type_variables;
+mod typing;
 
 pub use bound_names::{Binder, binders};
 pub use form_part::{PropertyPart, QuotientPart, RelatorPart, RulePart};
