@@ -6,3 +6,5 @@ pub mod Images
 pub mod Tasks
 pub mod Lists
 pub mod StoredTerms
+pub mod TypeNumbers
+pub mod TypeTasks
