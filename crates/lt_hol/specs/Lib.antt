@@ -6,3 +6,5 @@ pub mod Lines
 pub mod Items
 pub mod FreeNodes
 pub mod BoundNames
+pub mod Scopes
+pub mod TypeTables

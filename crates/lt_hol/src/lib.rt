@@ -7,13 +7,16 @@ mod form_part;
 mod item;
 mod line;
 mod lines;
+mod pending;
 mod property;
 mod reason;
 mod replacing;
+mod scope;
 mod signature;
 mod term;
 mod term_builder;
 mod type_fault;
+mod type_table;
 
 pub use bound_names::{Binder, binders};
 pub use form_part::{PropertyPart, QuotientPart, RelatorPart, RulePart};
@@ -31,6 +34,7 @@ pub use signature::{SigMark, Signature};
 pub use term::{Term, TermNode};
 pub use term_builder::TermBuilder;
 pub use type_fault::TypeFault;
+pub use type_table::TypeTable;
 
 /// A list of terms.
 pub type Terms = List<Term>;
