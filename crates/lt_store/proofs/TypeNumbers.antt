@@ -1,12 +1,14 @@
 -- Types by their numbers in a table.
-use Rattle.std.proofs.Common.{◌≡◌, ℕ, zero, suc, ◌+◌, ◌<◌, List, [], ◌∷◌, length, slice_get, get_or, Some, None, Option, Result, Ok, Err, refl, sym, ◌∙◌, ap, subst, arith}
-use Rattle.std.proofs.lemmas.Option.{same_Some, slice_get-get_or, slice_get_within}
-use Rattle.lt_definitions.specs.Types.{TypeTree, bool, fun}
+use Rattle.std.proofs.Common.{◌≡◌, ℕ, zero, suc, ◌+◌, ◌<◌, List, [], ◌∷◌, ◌++◌, length, length-append, append-nil, slice_get, get_or, Some, None, Option, Result, Ok, Err, refl, sym, ◌∙◌, ap, subst, arith}
+use Rattle.std.proofs.lemmas.Option.{same_Some, slice_get-get_or, slice_get_within, get_or_from_slice_get}
+use Rattle.std.proofs.lemmas.List.{get_or_append_left}
+use Rattle.lt_definitions.specs.Types.{TypeTree, type_variable, bool, fun}
 use Rattle.lt_definitions.specs.Typing.{Fault, earlier, unless}
 use Rattle.lt_hol.specs.declared.type_fault.TypeFault.{TypeFault}
 use Rattle.lt_hol.specs.declared.type_fault.TypeFault.TheVariants.{Duplicate, UnknownType, Arity, UnknownConst, TypeArgs, Unbound, Mismatch, Memory}
 use Rattle.lt_hol.specs.Faults.{Finds, fault_of}
-use Rattle.lt_store.specs.TypeNumbers.{Has, KeepsTypes, AreTypes, context_type}
+use Rattle.lt_hol.specs.TypeTables.{type_at, Extends}
+use Rattle.lt_store.specs.TypeNumbers.{Has, AreTypes, context_type}
 
 pub has-one : (ts : List TypeTree) (n : ℕ) (t u : TypeTree) → Has ts n t → Has ts n u → t ≡ u
 has-one ts n t u p q = same_Some t u (sym p ∙ q)
@@ -14,14 +16,26 @@ has-one ts n t u p q = same_Some t u (sym p ∙ q)
 pub has-within : (ts : List TypeTree) (n : ℕ) (t : TypeTree) → Has ts n t → n < length ts
 has-within ts n t p = slice_get_within ts n t p
 
-pub keeps-within : (old new : List TypeTree) (n : ℕ) → KeepsTypes old new → n < length old → n < length new
-keeps-within old new n k h = has-within new n _ (k.keeps n _ (slice_get-get_or old n bool h))
+pub has-at : (ts : List TypeTree) (n : ℕ) (t : TypeTree) → Has ts n t → type_at ts n ≡ t
+has-at ts n t p = get_or_from_slice_get ts n t (type_variable []) p
 
-pub keeps-same : (ts : List TypeTree) → KeepsTypes ts ts
-keeps-same ts = record { keeps = λ n ty h. h }
+pub at-has : (ts : List TypeTree) (n : ℕ) → n < length ts → Has ts n (type_at ts n)
+at-has ts n h = slice_get-get_or ts n (type_variable []) h
 
-pub keeps-on : (a b c : List TypeTree) → KeepsTypes a b → KeepsTypes b c → KeepsTypes a c
-keeps-on a b c p q = record { keeps = λ n ty h. q.keeps n ty (p.keeps n ty h) }
+pub extends-within : (old new : List TypeTree) (n : ℕ) → Extends old new → n < length old → n < length new
+extends-within old new n k h = omega (arith, h, ap length k.is, length-append old k.more)
+
+pub has-on : (old new : List TypeTree) (n : ℕ) (t : TypeTree) → Extends old new → Has old n t → Has new n t
+has-on old new n t k p =
+    let h = has-within old n t p in
+    at-has new n (extends-within old new n k h) ∙ ap Some (ap (λ ts. type_at ts n) k.is ∙ get_or_append_left old k.more (type_variable []) n h ∙ has-at old n t p)
+
+pub extends_same : (ts : List TypeTree) → Extends ts ts
+extends_same ts = record { more = []; is = sym (append-nil ts) }
+
+-- the types of functions between types of these numbers
+pub has-fun : (old new : List TypeTree) (f a n : ℕ) (t u : TypeTree) → Has new n (fun (type_at old f) (type_at old a)) → Has old f t → Has old a u → Has new n (fun t u)
+has-fun old new f a n t u h p q = h ∙ (λ i. Some (fun (has-at old f t p i) (has-at old a u q i)))
 
 -- types of binders
 
@@ -35,11 +49,11 @@ context-inj (x ∷ xs) (y ∷ ys) e =
     let rest = context-inj xs ys later in
     λ i. first i ∷ rest i
 
-pub types-on : (old new : List TypeTree) (ns : List ℕ) (tys : List TypeTree) → KeepsTypes old new → AreTypes old ns tys → AreTypes new ns tys
+pub types-on : (old new : List TypeTree) (ns : List ℕ) (tys : List TypeTree) → Extends old new → AreTypes old ns tys → AreTypes new ns tys
 types-on old new [] [] k h = tt
 types-on old new [] (ty ∷ tys) k h = h
 types-on old new (n ∷ ns) [] k h = h
-types-on old new (n ∷ ns) (ty ∷ tys) k h = (k.keeps n ty h.0, types-on old new ns tys k h.1)
+types-on old new (n ∷ ns) (ty ∷ tys) k h = (has-on old new n ty k h.0, types-on old new ns tys k h.1)
 
 pub types-length : (ts : List TypeTree) (ns : List ℕ) (tys : List TypeTree) → AreTypes ts ns tys → length ns ≡ length tys
 types-length ts [] [] h = refl

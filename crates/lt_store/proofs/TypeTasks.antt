@@ -11,11 +11,12 @@ use Rattle.lt_store.specs.declared.type_work.TypeTask.{TypeTask}
 use Rattle.lt_store.specs.declared.type_work.TypeTask.TheVariants.{Visit, Apply, Leave}
 use Rattle.lt_store.specs.Trees.{tree_at, tree_size}
 use Rattle.lt_store.specs.Memos.{Memo, result_at, IsKept}
-use Rattle.lt_store.specs.TypeNumbers.{Has, KeepsTypes, GivesType, AreTypes, context_type}
+use Rattle.lt_store.specs.TypeNumbers.{Has, GivesType, AreTypes, context_type}
+use Rattle.lt_hol.specs.TypeTables.{type_at, Extends}
 use Rattle.lt_store.specs.TypeTasks.{IsPlace, IsFound, AllFound, IsAmong, IsDue, IsEntered, outer, AreDue, fault_at, faults, IsTyping, weights}
 use Rattle.lt_store.proofs.Trees.{tree_size-positive}
 use Rattle.lt_store.proofs.Memos.{Keeps, keeps_more, keeps_own, kept_back, result_of}
-use Rattle.lt_store.proofs.TypeNumbers.{has-one, has-within, keeps-same, context-inj, types-on, types-length, types-at, finds-first, finds-unless}
+use Rattle.lt_store.proofs.TypeNumbers.{has-one, has-at, has-fun, has-on, has-within, extends_same, context-inj, types-on, types-length, types-at, finds-first, finds-unless}
 
 -- faults of a whole and of its parts
 
@@ -35,14 +36,14 @@ unless-none : {A : Type 0} (fault : Option Fault) (r : Result A Fault) → fault
 unless-none fault r e = ap (λ f. unless f r) e
 
 module _ (sig : Signature) (ns : List Node) where
-  place-on : (old new tys : List TypeTree) (i c : ℕ) → KeepsTypes old new → IsPlace ns old tys i c → IsPlace ns new tys i c
-  place-on old new tys i c k h = record { within = h.within; tells = k.keeps c _ h.tells; whole = h.whole }
+  place-on : (old new tys : List TypeTree) (i c : ℕ) → Extends old new → IsPlace ns old tys i c → IsPlace ns new tys i c
+  place-on old new tys i c k h = record { within = h.within; tells = has-on _ _ c _ k h.tells; whole = h.whole }
 
-  found-on : (old new : List TypeTree) (i c r : ℕ) → KeepsTypes old new → IsFound sig ns old i c r → IsFound sig ns new i c r
-  found-on old new i c r k h = record { tys = h.tys; ty = h.ty; tells = k.keeps c _ h.tells; has = k.keeps r _ h.has; is = h.is }
+  found-on : (old new : List TypeTree) (i c r : ℕ) → Extends old new → IsFound sig ns old i c r → IsFound sig ns new i c r
+  found-on old new i c r k h = record { tys = h.tys; ty = h.ty; tells = has-on _ _ c _ k h.tells; has = has-on _ _ r _ k h.has; is = h.is }
 
-  entered-on : (old new tys : List TypeTree) (i b d : ℕ) → KeepsTypes old new → IsEntered sig ns old tys i b d → IsEntered sig ns new tys i b d
-  entered-on old new tys i b d k h = record { ty = h.ty; binders = h.binders; right = h.right; stands = h.stands; tells = k.keeps d _ h.tells }
+  entered-on : (old new tys : List TypeTree) (i b d : ℕ) → Extends old new → IsEntered sig ns old tys i b d → IsEntered sig ns new tys i b d
+  entered-on old new tys i b d k h = record { ty = h.ty; binders = h.binders; right = h.right; stands = h.stands; tells = has-on _ _ d _ k h.tells }
 
   -- what is due stays so
   due-wider : (m m' : Memo) (ps qs : List (ℕ × ℕ)) (q : ℕ × ℕ) → ((p : ℕ × ℕ) → IsDue m ps p → IsDue m' qs p) → (p : ℕ × ℕ) → IsDue m (q ∷ ps) p → IsDue m' (q ∷ qs) p
@@ -57,7 +58,7 @@ module _ (sig : Signature) (ns : List Node) where
       by (inr (inl e)) = inr (inl e)
       by (inr (inr w)) = wide (on p (inr w))
 
-  due-on : (old new : List TypeTree) (m m' : Memo) (goal : ℕ × ℕ) (ps qs : List (ℕ × ℕ)) (tys : List TypeTree) (ts : List TypeTask) → KeepsTypes old new
+  due-on : (old new : List TypeTree) (m m' : Memo) (goal : ℕ × ℕ) (ps qs : List (ℕ × ℕ)) (tys : List TypeTree) (ts : List TypeTask) → Extends old new
       → ((p : ℕ × ℕ) → IsDue m ps p → IsDue m' qs p) → AreDue sig ns old m goal ps tys ts → AreDue sig ns new m' goal qs tys ts
   due-on old new m m' goal ps qs tys [] k on h = on goal h
   due-on old new m m' goal ps qs tys (Visit i c ∷ ts) k on h =
@@ -104,18 +105,18 @@ module _ (sig : Signature) (ns : List Node) where
           numbers = now.numbers;
           bottom = now.bottom;
           found = now.found;
-          due = due-on ts ts m m (root, base) ((i, c) ∷ []) [] now.tys rest (keeps-same ts) on now.due.1;
+          due = due-on ts ts m m (root, base) ((i, c) ∷ []) [] now.tys rest (extends_same ts) on now.due.1;
           first = now.first ∙ ap (λ o. earlier (fault_of o) (faults sig ns now.tys rest)) (found-at ts m now.tys i c r.0 now.found now.due.0.tells r.1).is;
         }
 
     -- the place of the first task is found now
-    settled : (new : List TypeTree) (m' : Memo) (binders : List ℕ) (tys : List TypeTree) (rest : List TypeTask) (i c r : ℕ) (ty : TypeTree) → KeepsTypes ts new → AreTypes ts binders tys → Has ts base (context_type [])
+    settled : (new : List TypeTree) (m' : Memo) (binders : List ℕ) (tys : List TypeTree) (rest : List TypeTask) (i c r : ℕ) (ty : TypeTree) → Extends ts new → AreTypes ts binders tys → Has ts base (context_type [])
         → AllFound sig ns ts m → IsPlace ns ts tys i c → AreDue sig ns ts m (root, base) ((i, c) ∷ []) tys rest → fault_at sig ns [] root ≡ earlier (fault_at sig ns tys i) (faults sig ns tys rest)
         → Has new r ty → nameless_typed sig tys (tree_at ns i) ≡ Ok ty → Keeps m m' i c r → IsTyping sig ns root base new m' binders rest
     settled new m' binders tys rest i c r ty k numbers bottom all place due first has is law = record {
       tys = tys;
       numbers = types-on ts new binders tys k numbers;
-      bottom = k.keeps base _ bottom;
+      bottom = has-on _ _ base _ k bottom;
       found = λ j d q at. by j d q (kept_back m m' i c r law j d q at);
       due = due-on ts new m m' (root, base) ((i, c) ∷ []) [] tys rest k on due;
       first = first ∙ ap (λ o. earlier (fault_of o) (faults sig ns tys rest)) is;
@@ -127,7 +128,7 @@ module _ (sig : Signature) (ns : List Node) where
         on p (inr (inr w)) = absurd w
 
         own : IsFound sig ns new i c r
-        own = record { tys = tys; ty = ty; tells = k.keeps c _ place.tells; has = has; is = is }
+        own = record { tys = tys; ty = ty; tells = has-on _ _ c _ k place.tells; has = has; is = is }
 
         by : (j d q : ℕ) → ((i ≡ j) × (c ≡ d) × (r ≡ q)) ⊎ (result_at m j d ≡ Some q) → IsFound sig ns new j d q
         by j d q (inl e) = rw (sym e.0, sym e.1, sym e.2) own
@@ -142,7 +143,7 @@ module _ (sig : Signature) (ns : List Node) where
       visit_wrong o e is h =
           subst (λ (f : Option Fault). Finds f e) (sym now.first) (finds-first (fault_of here) (faults sig ns now.tys rest) e (subst (λ (r : Result TypeTree Fault). Finds (fault_of r) e) (sym is) h))
 
-      pub visit_found : (new : List TypeTree) (m' : Memo) (r : ℕ) (o : Result TypeTree Fault) → KeepsTypes ts new → here ≡ o → GivesType new o (Ok r) → Keeps m m' i c r → IsTyping sig ns root base new m' binders rest
+      pub visit_found : (new : List TypeTree) (m' : Memo) (r : ℕ) (o : Result TypeTree Fault) → Extends ts new → here ≡ o → GivesType new o (Ok r) → Keeps m m' i c r → IsTyping sig ns root base new m' binders rest
       visit_found new m' r o k is h law =
           settled new m' binders now.tys rest i c r h.0 k now.numbers now.bottom now.found now.due.0 now.due.1 now.first h.1 (is ∙ h.2) law
 
@@ -158,7 +159,7 @@ module _ (sig : Signature) (ns : List Node) where
       pub visit_bound : (m' : Memo) (k r : ℕ) → tree_at ns i ≡ nameless_bound k → slice_get binders k ≡ Some r → Keeps m m' i c r → IsTyping sig ns root base ts m' binders rest
       visit_bound m' k r stands at law =
           let one = types-at ts binders now.tys k r now.numbers at in
-          settled ts m' binders now.tys rest i c r one.0 (keeps-same ts) now.numbers now.bottom now.found now.due.0 now.due.1 now.first one.2
+          settled ts m' binders now.tys rest i c r one.0 (extends_same ts) now.numbers now.bottom now.found now.due.0 now.due.1 now.first one.2
           (ap (nameless_typed sig now.tys) stands ∙ ap (bound_type []) one.1) law
 
       pub visit_application : (f a : ℕ) → tree_at ns i ≡ nameless_application (tree_at ns f) (tree_at ns a) → f < i → a < i
@@ -175,7 +176,7 @@ module _ (sig : Signature) (ns : List Node) where
               record { within = omega (arith, place.within); tells = place.tells; whole = parts.0 },
               (
                 record { within = omega (arith, place.within); tells = place.tells; whole = parts.1 },
-                (place, stands, inr (inr (inl refl)), inr (inl refl), due-on ts ts m m (root, base) ((i, c) ∷ []) ((i, c) ∷ (a, c) ∷ (f, c) ∷ []) now.tys rest (keeps-same ts) on now.due.1),
+                (place, stands, inr (inr (inl refl)), inr (inl refl), due-on ts ts m m (root, base) ((i, c) ∷ []) ((i, c) ∷ (a, c) ∷ (f, c) ∷ []) now.tys rest (extends_same ts) on now.due.1),
               ),
             );
             first = now.first ∙ ap (λ (t : Nameless). earlier (fault_of (nameless_typed sig now.tys t)) (faults sig ns now.tys rest)) stands
@@ -188,7 +189,7 @@ module _ (sig : Signature) (ns : List Node) where
           on p (inr (inl e)) = inr (inl e)
           on p (inr (inr w)) = absurd w
 
-      pub visit_abstraction : (new : List TypeTree) (b d n : ℕ) (ty : TypeTree) → tree_at ns i ≡ nameless_abstraction ty (tree_at ns b) → b < i → KeepsTypes ts new → type_fault sig ty ≡ None → Has new n ty
+      pub visit_abstraction : (new : List TypeTree) (b d n : ℕ) (ty : TypeTree) → tree_at ns i ≡ nameless_abstraction ty (tree_at ns b) → b < i → Extends ts new → type_fault sig ty ≡ None → Has new n ty
           → ((t : TypeTree) → Has ts c t → Has new d (fun ty t)) → IsTyping sig ns root base new m (n ∷ binders) (Visit b d ∷ Leave i c b d ∷ rest)
       visit_abstraction new b d n ty stands hb k right has inside =
           let place = now.due.0 in
@@ -197,7 +198,7 @@ module _ (sig : Signature) (ns : List Node) where
           record {
             tys = ty ∷ now.tys;
             numbers = (has, types-on ts new binders now.tys k now.numbers);
-            bottom = k.keeps base _ now.bottom;
+            bottom = has-on _ _ base _ k now.bottom;
             found = λ j e q at. found-on ts new j e q k (now.found j e q at);
             due = (
               record { within = omega (arith, place.within); tells = tells; whole = part },
@@ -229,21 +230,21 @@ module _ (sig : Signature) (ns : List Node) where
         pub argument_type : FoundAt ts now.tys a ra
         argument_type = found-at ts m now.tys a c ra now.found now.due.0.tells at_a
 
-        whole_type : nameless_typed sig now.tys (tree_at ns i) ≡ applied_type function_type.ty argument_type.ty
+        whole_type : nameless_typed sig now.tys (tree_at ns i) ≡ applied_type (type_at ts rf) (type_at ts ra)
         whole_type =
             ap (nameless_typed sig now.tys) now.due.1
             ∙ (λ k. with_ok (function_type.is k) (λ t. with_ok (argument_type.is k) (λ u. applied_type t u)))
+            ∙ (λ k. applied_type (sym (has-at ts rf function_type.ty function_type.has) k) (sym (has-at ts ra argument_type.ty argument_type.has) k))
 
-        pub apply_wrong : (e : TypeFault) → ((t u : TypeTree) → Has ts rf t → Has ts ra u → GivesType ts (applied_type t u) (Err e)) → Finds (fault_at sig ns [] root) e
+        pub apply_wrong : (e : TypeFault) → GivesType ts (applied_type (type_at ts rf) (type_at ts ra)) (Err e) → Finds (fault_at sig ns [] root) e
         apply_wrong e h =
             subst (λ (o : Option Fault). Finds o e) (sym now.first)
             (finds-first (fault_at sig ns now.tys i) (faults sig ns now.tys rest) e
-            (subst (λ (r : Result TypeTree Fault). Finds (fault_of r) e) (sym whole_type) (h function_type.ty argument_type.ty function_type.has argument_type.has)))
+            (subst (λ (r : Result TypeTree Fault). Finds (fault_of r) e) (sym whole_type) h))
 
-        pub apply_found : (m' : Memo) (r : ℕ) → ((t u : TypeTree) → Has ts rf t → Has ts ra u → GivesType ts (applied_type t u) (Ok r)) → Keeps m m' i c r → IsTyping sig ns root base ts m' binders rest
+        pub apply_found : (m' : Memo) (r : ℕ) → GivesType ts (applied_type (type_at ts rf) (type_at ts ra)) (Ok r) → Keeps m m' i c r → IsTyping sig ns root base ts m' binders rest
         apply_found m' r h law =
-            let made : GivesType ts (applied_type function_type.ty argument_type.ty) (Ok r) = h function_type.ty argument_type.ty function_type.has argument_type.has in
-            settled ts m' binders now.tys rest i c r made.0 (keeps-same ts) now.numbers now.bottom now.found now.due.0 now.due.4 now.first made.1 (whole_type ∙ made.2) law
+            settled ts m' binders now.tys rest i c r h.0 (extends_same ts) now.numbers now.bottom now.found now.due.0 now.due.4 now.first h.1 (whole_type ∙ h.2) law
 
     module _ (binders : List ℕ) (rest : List TypeTask) (i c b d : ℕ) (now : IsTyping sig ns root base ts m binders (Leave i c b d ∷ rest)) where
       pub leave_ready : IsKept m (b, d)
@@ -263,13 +264,13 @@ module _ (sig : Signature) (ns : List Node) where
         pub body_type : FoundAt ts now.tys b rb
         body_type = found-at ts m now.tys b d rb now.found entered.tells at_b
 
-        pub leave_found : (new : List TypeTree) (m' : Memo) (n : ℕ) (left : List ℕ) (r : ℕ) → binders ≡ n ∷ left → KeepsTypes ts new → ((t u : TypeTree) → Has ts n t → Has ts rb u → Has new r (fun t u)) → Keeps m m' i c r
+        pub leave_found : (new : List TypeTree) (m' : Memo) (n : ℕ) (left : List ℕ) (r : ℕ) → binders ≡ n ∷ left → Extends ts new → Has new r (fun (type_at ts n) (type_at ts rb)) → Keeps m m' i c r
             → IsTyping sig ns root base new m' left rest
         leave_found new m' n left r e k made law =
             let binder = leave_some n left e in
             let inside : nameless_typed sig (entered.ty ∷ outer now.tys) (tree_at ns b) ≡ Ok body_type.ty = ap (λ (bs : List TypeTree). nameless_typed sig bs (tree_at ns b)) (sym entered.binders) ∙ body_type.is in
             settled new m' left (outer now.tys) rest i c r (fun entered.ty body_type.ty) k binder.1 now.bottom now.found now.due.0 now.due.3 now.first
-            (made entered.ty body_type.ty binder.0 body_type.has)
+            (has-fun ts new n rb r entered.ty body_type.ty made binder.0 body_type.has)
             (ap (nameless_typed sig (outer now.tys)) entered.stands
             ∙ unless-none (type_fault sig entered.ty) (with_ok (nameless_typed sig (entered.ty ∷ outer now.tys) (tree_at ns b)) (λ u. Ok (fun entered.ty u))) entered.right
             ∙ ap (λ (o : Result TypeTree Fault). with_ok o (λ u. Ok (fun entered.ty u))) inside) law

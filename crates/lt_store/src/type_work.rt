@@ -7,9 +7,8 @@ use crate::last::take_last;
 use crate::memo::{Memo, keep, kept, look};
 use crate::node::{Id, View};
 use crate::term_store::TermStore;
-use crate::type_numbers::{binder_number, checked, constant_number, enter};
-use crate::type_table::TypeTable;
-use lt_hol::{Signature, TypeFault};
+use crate::type_numbers::{applied, binder_number, checked, constant_number, enter};
+use lt_hol::{Signature, TypeFault, TypeTable};
 use lt_types::Memory;
 use std::alloc::Global;
 
@@ -137,7 +136,7 @@ impl TypeWork {
     {
         let function = kept(&self.found, f, context);
         let argument = kept(&self.found, a, context);
-        match self.types.applied(alloc, function, argument) {
+        match applied(alloc, &self.types, function, argument) {
             Ok(number) => {
                 keep(&mut self.found, id, context, number)?;
                 Ok(())

@@ -8,9 +8,9 @@ ghost use Rattle.lt_store.specs.Trees.{tree_at};
 use crate::memo::kept;
 use crate::node::Id;
 use crate::term_store::TermStore;
-use crate::type_table::TypeTable;
+use crate::type_numbers::numbered;
 use crate::type_work::{TypeTask, TypeWork};
-use lt_hol::{Signature, TypeFault};
+use lt_hol::{Signature, TypeFault, TypeTable};
 use lt_types::Ty;
 use std::alloc::Global;
 use std::collections::HashMap;
@@ -30,7 +30,7 @@ pub fn type_at<S: TermStore>(
     requires whole { IsWhole 0 (tree_at (S.nodes store.now) t) }
     ensures { Gives (nameless_typed sig.now [] (tree_at (S.nodes store.now) t)) result }
 {
-    let mut types = TypeTable::new(alloc);
+    let mut types = TypeTable::new(alloc)?;
     let no_binders = types.intern(alloc, &Ty::bool(alloc)?)?;
     let mut tasks = Vec::new(alloc);
     tasks.push(TypeTask::Visit(t, no_binders))?;
@@ -47,6 +47,6 @@ pub fn type_at<S: TermStore>(
         }
     }
     let number = kept(&work.found, t, no_binders);
-    let ty = work.types.ty(alloc, number)?;
+    let ty = numbered(alloc, &work.types, number)?;
     Ok(ty)
 }

@@ -16,6 +16,6 @@ fun-requires-clause-to g c =
 pub returns : goal.returns
 returns g c root base now =
     let split = ap reverse c.take_last-of_binder.ensures ∙ reverse-append c.take_last-of_binder.new.stack.items (c.take_last-of_binder.result ∷ []) in (
-      leave_found _ _ _ _ _ c.args.self.now.found _ _ _ _ _ _ now _ c.kept-of_body.ensures _ c.keep.new.memo _ _ _ split c.fun.ensures.kept c.in_ok-number.ensures.is c.in_ok-keep.ensures,
+      leave_found _ _ _ _ _ c.args.self.now.found _ _ _ _ _ _ now _ c.kept-of_body.ensures _ c.keep.new.memo _ _ _ split c.fun.ensures.grows c.in_ok-number.ensures.ok c.in_ok-keep.ensures,
       omega arith,
     )
