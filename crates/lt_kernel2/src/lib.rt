@@ -2,9 +2,11 @@
 #![tactic(auto)]
 
 mod assuming;
+mod derive;
 mod equating;
 mod hyps;
 mod implying;
+mod later;
 mod making;
 mod proof;
 mod rule_fault;
