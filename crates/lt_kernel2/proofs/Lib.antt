@@ -4,3 +4,4 @@ pub mod Hypotheses
 pub mod Typed
 pub mod Outcomes
 pub mod NamedIds
+pub mod States

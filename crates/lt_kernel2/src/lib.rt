@@ -9,10 +9,12 @@ mod implying;
 mod later;
 mod making;
 mod proof;
+mod proof_store;
 mod rule_fault;
 mod sequent;
 mod shapes;
 mod steps;
+mod storing;
 mod typing;
 mod word;
 
