@@ -1,7 +1,11 @@
 //! The kernel: what a theory has declared and stated, and derivations over any store of terms.
 #![tactic(auto)]
 
+mod assuming;
+mod equating;
 mod hyps;
+mod implying;
+mod making;
 mod proof;
 mod rule_fault;
 mod sequent;
