@@ -2,3 +2,5 @@ pub mod Numbers
 pub mod Words
 pub mod Hypotheses
 pub mod Typed
+pub mod FunctionParts
+pub mod OtherOutcomes

@@ -1,12 +1,20 @@
 //! The kernel: what a theory has declared and stated, and derivations over any store of terms.
 #![tactic(auto)]
 
+mod applying;
 mod assuming;
+mod binding;
+mod choosing;
 mod equating;
+mod function_types;
 mod hyps;
 mod implying;
 mod making;
+mod making_more;
 mod proof;
+mod quantifying;
+mod redexes;
+mod replacing;
 mod rule_fault;
 mod sequent;
 mod shapes;
