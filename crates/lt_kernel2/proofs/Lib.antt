@@ -4,3 +4,5 @@ pub mod Hypotheses
 pub mod Typed
 pub mod FunctionParts
 pub mod OtherOutcomes
+pub mod Outcomes
+pub mod NamedIds

@@ -11,7 +11,7 @@ use crate::rule_fault::RuleFault;
 use crate::sequent::{Sequent, Step};
 use crate::shapes::as_equation;
 use crate::steps::sequent_at;
-use lt_hol::{Reason, TryCopy};
+use lt_hol::Reason;
 use lt_store::TermStore;
 use std::alloc::Global;
 
@@ -33,23 +33,18 @@ pub fn cong<S: TermStore>(
     let Some(second) = sequent_at(store, done, j) else {
         return Err(RuleFault::Bad(Reason::MissingLine));
     };
-    let Some(functions) = as_equation(store, first.concl) else {
+    let Some(functions) = as_equation(alloc, store, first.concl)? else {
         return Err(RuleFault::Bad(Reason::NotEquation));
     };
-    let Some(arguments) = as_equation(store, second.concl) else {
+    let Some(arguments) = as_equation(alloc, store, second.concl)? else {
         return Err(RuleFault::Bad(Reason::NotEquation));
     };
-    let (f, g) = (functions.left, functions.right);
-    let (a, b) = (arguments.left, arguments.right);
-    let Some(ty) = joined_type(alloc, functions.ty, arguments.ty)? else {
+    let Some(ty) = joined_type(alloc, &functions.ty, &arguments.ty)? else {
         return Err(RuleFault::Bad(Reason::TypeDiffers));
     };
-    let hyps = union(
-        alloc,
-        store,
-        first.hyps.copy(alloc)?,
-        second.hyps.as_slice(),
-    )?;
+    let (f, a) = (functions.left, arguments.left);
+    let (g, b) = (functions.right, arguments.right);
+    let hyps = union(alloc, store, &first.hyps, &second.hyps)?;
     let concl = mk_applied_equation(alloc, store, ty, f, a, g, b)?;
     Ok(Sequent { hyps, concl })
 }

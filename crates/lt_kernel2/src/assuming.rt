@@ -10,7 +10,7 @@ use crate::sequent::{Sequent, Step};
 use crate::steps::sequent_at;
 use crate::typing::is_boolean;
 use indexmap::IndexMap;
-use lt_hol::{Ids, Name, Reason, Signature, TryCopy};
+use lt_hol::{Ids, Name, Reason, Signature};
 use lt_store::{Id, TermStore};
 use std::alloc::Global;
 
@@ -53,7 +53,7 @@ pub fn weaken<S: TermStore>(
         return Err(RuleFault::Bad(Reason::NotBool));
     }
     let more = one(alloc, p)?;
-    let hyps = union(alloc, store, from.hyps.copy(alloc)?, more.as_slice())?;
+    let hyps = union(alloc, store, &from.hyps, &more)?;
     Ok(Sequent { hyps, concl: from.concl })
 }
 

@@ -32,16 +32,14 @@ pub fn abs<S: TermStore>(
     let Some(from) = sequent_at(store, done, i) else {
         return Err(RuleFault::Bad(Reason::MissingLine));
     };
-    let Some(sides) = as_equation(store, from.concl) else {
+    let Some(sides) = as_equation(alloc, store, from.concl)? else {
         return Err(RuleFault::Bad(Reason::NotEquation));
     };
-    let (left, right) = (sides.left, sides.right);
-    let at = sides.ty.copy(alloc)?;
     if has_free(alloc, store, from.hyps.as_slice(), x, ty)? {
         return Err(RuleFault::Bad(Reason::VariableInHypothesis));
     }
     let hyps = from.hyps.copy(alloc)?;
-    let concl = mk_closed_equation(alloc, store, x, ty, at, left, right)?;
+    let concl = mk_closed_equation(alloc, store, x, ty, sides.ty, sides.left, sides.right)?;
     Ok(Sequent { hyps, concl })
 }
 

@@ -4,7 +4,7 @@ ghost use Rattle.lt_definitions.specs.NamelessRules.{nameless_fault, nameless_re
 ghost use Rattle.lt_store.specs.Trees.{tree_at, Extends};
 ghost use Rattle.lt_kernel2.specs.Sequents.{sequents_at, AreWithin, Gives};
 
-use crate::hyps::union;
+use crate::hyps::{are_same, union};
 use crate::making::mk_equation;
 use crate::rule_fault::RuleFault;
 use crate::sequent::{Sequent, Step};
@@ -46,12 +46,11 @@ pub fn sym<S: TermStore>(
     let Some(from) = sequent_at(store, done, i) else {
         return Err(RuleFault::Bad(Reason::MissingLine));
     };
-    let Some(sides) = as_equation(store, from.concl) else {
+    let Some(sides) = as_equation(alloc, store, from.concl)? else {
         return Err(RuleFault::Bad(Reason::NotEquation));
     };
-    let ty = sides.ty.copy(alloc)?;
     let hyps = from.hyps.copy(alloc)?;
-    let concl = mk_equation(alloc, store, ty, sides.right, sides.left)?;
+    let concl = mk_equation(alloc, store, sides.ty, sides.right, sides.left)?;
     Ok(Sequent { hyps, concl })
 }
 
@@ -73,18 +72,17 @@ pub fn trans<S: TermStore>(
     let Some(second) = sequent_at(store, done, j) else {
         return Err(RuleFault::Bad(Reason::MissingLine));
     };
-    let Some(one) = as_equation(store, first.concl) else {
+    let Some(one) = as_equation(alloc, store, first.concl)? else {
         return Err(RuleFault::Bad(Reason::NotEquation));
     };
-    let Some(other) = as_equation(store, second.concl) else {
+    let Some(other) = as_equation(alloc, store, second.concl)? else {
         return Err(RuleFault::Bad(Reason::NotEquation));
     };
-    if !store.same(alloc, one.right, other.left)? {
+    if !are_same(alloc, store, one.right, other.left)? {
         return Err(RuleFault::Bad(Reason::MiddleDiffers));
     }
-    let ty = one.ty.copy(alloc)?;
-    let hyps = union(alloc, store, first.hyps.copy(alloc)?, second.hyps.as_slice())?;
-    let concl = mk_equation(alloc, store, ty, one.left, other.right)?;
+    let hyps = union(alloc, store, &first.hyps, &second.hyps)?;
+    let concl = mk_equation(alloc, store, one.ty, one.left, other.right)?;
     Ok(Sequent { hyps, concl })
 }
 
@@ -105,13 +103,13 @@ pub fn eqmp<S: TermStore>(
     let Some(minor) = sequent_at(store, done, j) else {
         return Err(RuleFault::Bad(Reason::MissingLine));
     };
-    let Some(sides) = as_equation(store, major.concl) else {
+    let Some(sides) = as_equation(alloc, store, major.concl)? else {
         return Err(RuleFault::Bad(Reason::NotEquation));
     };
-    if !store.same(alloc, sides.left, minor.concl)? {
+    if !are_same(alloc, store, sides.left, minor.concl)? {
         return Err(RuleFault::Bad(Reason::MiddleDiffers));
     }
-    let hyps = union(alloc, store, major.hyps.copy(alloc)?, minor.hyps.as_slice())?;
+    let hyps = union(alloc, store, &major.hyps, &minor.hyps)?;
     Ok(Sequent { hyps, concl: sides.right })
 }
 
@@ -139,14 +137,14 @@ pub fn iff<S: TermStore>(
     let Some((r, s)) = as_implication(store, second.concl) else {
         return Err(RuleFault::Bad(Reason::NotImplication));
     };
-    if !store.same(alloc, p, s)? {
+    if !are_same(alloc, store, p, s)? {
         return Err(RuleFault::Bad(Reason::MiddleDiffers));
     }
-    if !store.same(alloc, q, r)? {
+    if !are_same(alloc, store, q, r)? {
         return Err(RuleFault::Bad(Reason::MiddleDiffers));
     }
     let ty = Ty::bool(alloc)?;
-    let hyps = union(alloc, store, first.hyps.copy(alloc)?, second.hyps.as_slice())?;
+    let hyps = union(alloc, store, &first.hyps, &second.hyps)?;
     let concl = mk_equation(alloc, store, ty, p, q)?;
     Ok(Sequent { hyps, concl })
 }

@@ -1,17 +1,17 @@
-//! The rules on implications: `impI`, `mp` and `ccontr`.
+//! The rules on implications: `impI` and `mp`.
 ghost use Rattle.std.specs.Prelude.{◌≡◌, ◌<◌, length, None};
-ghost use Rattle.lt_definitions.specs.NamelessRules.{nameless_fault, nameless_impI_gives, nameless_mp_gives, nameless_ccontr_gives};
+ghost use Rattle.lt_definitions.specs.NamelessRules.{nameless_fault, nameless_impI_gives, nameless_mp_gives};
 ghost use Rattle.lt_store.specs.Trees.{tree_at, Extends};
 ghost use Rattle.lt_kernel2.specs.Sequents.{sequents_at, AreWithin, Gives};
 
-use crate::hyps::{union, without};
-use crate::making::{mk_falsity, mk_implies};
+use crate::hyps::{are_same, union, without};
+use crate::making::mk_implies;
 use crate::rule_fault::RuleFault;
 use crate::sequent::{Sequent, Step};
 use crate::shapes::as_implication;
 use crate::steps::sequent_at;
 use crate::typing::is_boolean;
-use lt_hol::{Ids, Reason, Signature, TryCopy};
+use lt_hol::{Reason, Signature};
 use lt_store::{Id, TermStore};
 use std::alloc::Global;
 
@@ -36,7 +36,7 @@ pub fn impI<S: TermStore>(
     if !is_boolean(alloc, store, sig, p)? {
         return Err(RuleFault::Bad(Reason::NotBool));
     }
-    let hyps = without(alloc, store, p, from.hyps.as_slice())?;
+    let hyps = without(alloc, store, p, &from.hyps)?;
     let concl = mk_implies(alloc, store, p, from.concl)?;
     Ok(Sequent { hyps, concl })
 }
@@ -61,31 +61,9 @@ pub fn mp<S: TermStore>(
     let Some((p, q)) = as_implication(store, major.concl) else {
         return Err(RuleFault::Bad(Reason::NotImplication));
     };
-    if !store.same(alloc, p, minor.concl)? {
+    if !are_same(alloc, store, p, minor.concl)? {
         return Err(RuleFault::Bad(Reason::MiddleDiffers));
     }
-    let hyps = union(alloc, store, major.hyps.copy(alloc)?, minor.hyps.as_slice())?;
+    let hyps = union(alloc, store, &major.hyps, &minor.hyps)?;
     Ok(Sequent { hyps, concl: q })
-}
-
-/// `|- ((p --> F) --> F) --> p`
-pub fn ccontr<S: TermStore>(
-    alloc: Global,
-    store: &mut S,
-    sig: &Signature,
-    p: Id,
-) -> Result<Sequent, RuleFault>
-    requires p { p < length (S.nodes store.old) }
-    requires typed { nameless_fault sig.now (tree_at (S.nodes store.old) p) ≡ None }
-    ensures kept { Extends (S.nodes store.old) (S.nodes store.new) }
-    ensures step { Gives (S.nodes store.new) result (nameless_ccontr_gives sig.now (tree_at (S.nodes store.old) p)) }
-{
-    if !is_boolean(alloc, store, sig, p)? {
-        return Err(RuleFault::Bad(Reason::NotBool));
-    }
-    let falsity = mk_falsity(alloc, store)?;
-    let absurd = mk_implies(alloc, store, p, falsity)?;
-    let twice = mk_implies(alloc, store, absurd, falsity)?;
-    let concl = mk_implies(alloc, store, twice, p)?;
-    Ok(Sequent { hyps: Ids::new(alloc), concl })
 }

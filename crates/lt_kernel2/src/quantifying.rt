@@ -56,14 +56,13 @@ pub fn allE<S: TermStore>(
     let Some(from) = sequent_at(store, done, i) else {
         return Err(RuleFault::Bad(Reason::MissingLine));
     };
-    let Some(all) = as_forall(store, from.concl) else {
+    let Some(all) = as_forall(alloc, store, from.concl)? else {
         return Err(RuleFault::Bad(Reason::NotForall));
     };
-    let predicate = all.predicate;
-    if !has_type(alloc, store, sig, t, all.ty)? {
+    if !has_type(alloc, store, sig, t, &all.ty)? {
         return Err(RuleFault::Bad(Reason::TypeDiffers));
     }
     let hyps = from.hyps.copy(alloc)?;
-    let concl = mk_at(alloc, store, predicate, t)?;
+    let concl = mk_at(alloc, store, all.predicate, t)?;
     Ok(Sequent { hyps, concl })
 }

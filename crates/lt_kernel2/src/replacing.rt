@@ -38,7 +38,7 @@ pub fn inst<S: TermStore>(
     }
     let concl = replaced(alloc, store, from.concl, x, ty, t)?;
     let each = replace_free(alloc, store, from.hyps.as_slice(), x, ty, t)?;
-    let hyps = union(alloc, store, Ids::new(alloc), each.as_slice())?;
+    let hyps = union(alloc, store, &Ids::new(alloc), &each)?;
     Ok(Sequent { hyps, concl })
 }
 
@@ -61,7 +61,7 @@ pub fn tinst<S: TermStore>(
     let by = one_pair(alloc, a, ty)?;
     let concl = type_instance(alloc, store, from.concl, &by)?;
     let each = type_instances(alloc, store, from.hyps.as_slice(), &by)?;
-    let hyps = union(alloc, store, Ids::new(alloc), each.as_slice())?;
+    let hyps = union(alloc, store, &Ids::new(alloc), &each)?;
     Ok(Sequent { hyps, concl })
 }
 
