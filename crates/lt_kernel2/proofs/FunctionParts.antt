@@ -41,7 +41,7 @@ no-parts (type_constructor c (type_and from no_types)) h = refl
 no-parts (type_constructor c (type_and from (type_and to (type_and t ts)))) h = refl
 no-parts (type_constructor c (type_and from (type_and to no_types))) h = by (same_name c (codes "fun")) refl
   where
-    by : (b : Bool) → same_name c (codes "fun") ≡ b → None ≡ (if b then Some (from, to) else None)
+    by : (b : Bool) → same_name c (codes "fun") ≡ b → let parts : Option (TypeTree × TypeTree) = if b then Some (from, to) else None in None ≡ parts
     by true e = absurd (h ((97 ∷ [], from) ∷ (120 ∷ [], to) ∷ []) (matched c from to e))
     by false e = refl
 

@@ -108,6 +108,42 @@ pub fn mk_at<S: TermStore>(alloc: Global, store: &mut S, p: Id, t: Id) -> Result
     }
 }
 
+/// `p x`, where `x` is the bound name of the innermost binder.
+fn mk_of_bound<S: TermStore>(alloc: Global, store: &mut S, p: Id) -> Result<Id, Memory>
+    requires { p < length (S.nodes store.old) }
+    ensures kept { Extends (S.nodes store.old) (S.nodes store.new) }
+    ensures made { IfOk result (λ r. r < length (S.nodes store.new)) }
+    ensures is { IfOk result (λ r. tree_at (S.nodes store.new) r ≡ nameless_application (tree_at (S.nodes store.old) p) (nameless_bound 0)) }
+{
+    let x = store.mk_bound(alloc, 0)?;
+    let made = store.mk_app(alloc, p, x)?;
+    Ok(made)
+}
+
+/// `eps p`, where `p` is a predicate over the type.
+fn mk_some<S: TermStore>(alloc: Global, store: &mut S, ty: Ty, p: Id) -> Result<Id, Memory>
+    requires { p < length (S.nodes store.old) }
+    ensures kept { Extends (S.nodes store.old) (S.nodes store.new) }
+    ensures made { IfOk result (λ r. r < length (S.nodes store.new)) }
+    ensures is { IfOk result (λ r. tree_at (S.nodes store.new) r ≡ nameless_application (nameless_constant (codes "eps") (ty ∷ [])) (tree_at (S.nodes store.old) p)) }
+{
+    let eps = mk_eps(alloc, store, ty)?;
+    let made = store.mk_app(alloc, eps, p)?;
+    Ok(made)
+}
+
+/// `p (eps p)`
+fn mk_of_some<S: TermStore>(alloc: Global, store: &mut S, ty: Ty, p: Id) -> Result<Id, Memory>
+    requires { p < length (S.nodes store.old) }
+    ensures kept { Extends (S.nodes store.old) (S.nodes store.new) }
+    ensures made { IfOk result (λ r. r < length (S.nodes store.new)) }
+    ensures is { IfOk result (λ r. tree_at (S.nodes store.new) r ≡ nameless_application (tree_at (S.nodes store.old) p) (nameless_application (nameless_constant (codes "eps") (ty ∷ [])) (tree_at (S.nodes store.old) p))) }
+{
+    let some = mk_some(alloc, store, ty, p)?;
+    let made = store.mk_app(alloc, p, some)?;
+    Ok(made)
+}
+
 /// `p x --> p (eps p)`, where `x` is the bound name of the innermost binder.
 fn mk_chosen<S: TermStore>(alloc: Global, store: &mut S, ty: Ty, p: Id) -> Result<Id, Memory>
     requires { p < length (S.nodes store.old) }
@@ -115,11 +151,8 @@ fn mk_chosen<S: TermStore>(alloc: Global, store: &mut S, ty: Ty, p: Id) -> Resul
     ensures made { IfOk result (λ r. r < length (S.nodes store.new)) }
     ensures is { IfOk result (λ r. tree_at (S.nodes store.new) r ≡ nameless_implies (nameless_application (tree_at (S.nodes store.old) p) (nameless_bound 0)) (nameless_application (tree_at (S.nodes store.old) p) (nameless_application (nameless_constant (codes "eps") (ty ∷ [])) (tree_at (S.nodes store.old) p)))) }
 {
-    let x = store.mk_bound(alloc, 0)?;
-    let of_x = store.mk_app(alloc, p, x)?;
-    let eps = mk_eps(alloc, store, ty)?;
-    let some = store.mk_app(alloc, eps, p)?;
-    let of_some = store.mk_app(alloc, p, some)?;
+    let of_x = mk_of_bound(alloc, store, p)?;
+    let of_some = mk_of_some(alloc, store, ty, p)?;
     let made = mk_implies(alloc, store, of_x, of_some)?;
     Ok(made)
 }

@@ -36,9 +36,9 @@ pub fn inst<S: TermStore>(
     if !has_type(alloc, store, sig, t, ty)? {
         return Err(RuleFault::Bad(Reason::TypeDiffers));
     }
-    let concl = replaced(alloc, store, from.concl, x, ty, t)?;
     let each = replace_free(alloc, store, from.hyps.as_slice(), x, ty, t)?;
     let hyps = union(alloc, store, &Ids::new(alloc), &each)?;
+    let concl = replaced(alloc, store, from.concl, x, ty, t)?;
     Ok(Sequent { hyps, concl })
 }
 
@@ -59,9 +59,9 @@ pub fn tinst<S: TermStore>(
         return Err(RuleFault::Bad(Reason::MissingLine));
     };
     let by = one_pair(alloc, a, ty)?;
-    let concl = type_instance(alloc, store, from.concl, &by)?;
     let each = type_instances(alloc, store, from.hyps.as_slice(), &by)?;
     let hyps = union(alloc, store, &Ids::new(alloc), &each)?;
+    let concl = type_instance(alloc, store, from.concl, &by)?;
     Ok(Sequent { hyps, concl })
 }
 
