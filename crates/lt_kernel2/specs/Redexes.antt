@@ -1,4 +1,4 @@
--- The parts of terms that open.
+-- The parts of abstractions and redexes.
 use Rattle.std.specs.Prelude.{ℕ, zero, Bool, true, false, Option, Some, None, if◌then◌else◌}
 use Rattle.lt_definitions.specs.Nameless.{Nameless, nameless_bound, nameless_application, nameless_abstraction}
 

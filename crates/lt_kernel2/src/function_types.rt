@@ -7,6 +7,8 @@ use lt_hol::{Memory, Name, TryCopy, Ty, match_type, tsub};
 use std::alloc::Global;
 
 /// The types that a function's type goes from and to; None where it is no function's type.
+///
+/// It takes time linear in the type, which is matched against the type of functions from 'a to 'x.
 fn function_parts(alloc: Global, ty: &Ty) -> Result<Option<(Ty, Ty)>, Memory>
     ensures { IfOk result (λ parts. parts ≡ function_parts ty.now) }
 {

@@ -10,7 +10,6 @@ mod equating;
 mod function_types;
 mod hyps;
 mod implying;
-mod later;
 mod making;
 mod making_more;
 mod proof;

@@ -1,4 +1,4 @@
-//! Terms that open: abstractions, abstractions that are applied, and those of an application to their own bound name.
+//! Abstractions and redexes.
 ghost use Rattle.std.specs.Prelude.{◌≡◌, ◌<◌, length, IfSome};
 ghost use Rattle.std.specs.Option.{option_map};
 ghost use Rattle.lt_store.specs.Trees.{tree_at};
