@@ -5,10 +5,14 @@ ghost use Rattle.lt_store.specs.Trees.{Extends};
 ghost use Rattle.lt_kernel2.specs.Lines.{rule_at, IsGoodLine};
 ghost use Rattle.lt_kernel2.specs.Sequents.{sequents_at, statements_at, AreWithin, NamedWithin, Gives};
 
+use crate::applying::cong;
 use crate::assuming::{assume, thm, weaken};
+use crate::binding::{abs, beta, eta};
+use crate::choosing::{ccontr, select};
 use crate::equating::{eqmp, iff, refl, sym, trans};
 use crate::implying::{impI, mp};
-use crate::later::{abs, allE, allI, beta, ccontr, cong, eta, inst, select, tinst};
+use crate::quantifying::{allE, allI};
+use crate::replacing::{inst, tinst};
 use crate::rule_fault::RuleFault;
 use crate::sequent::{Sequent, Step};
 use indexmap::IndexMap;
