@@ -4,6 +4,7 @@
 mod applying;
 mod assuming;
 mod binding;
+mod calls;
 mod choosing;
 mod derive;
 mod equating;

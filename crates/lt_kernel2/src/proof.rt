@@ -4,13 +4,11 @@ ghost use Rattle.std.specs.Option.{option_copied, option_map};
 ghost use Rattle.lt_definitions.specs.Types.{found};
 ghost use Rattle.lt_definitions.specs.Rules.{line_at};
 ghost use Rattle.lt_definitions.specs.Nameless.{nameless, IsWhole};
-ghost use Rattle.lt_definitions.specs.NamelessRules.{nameless_fault, nameless_assume_gives, nameless_impI_gives, nameless_mp_gives, nameless_thm_gives};
 ghost use Rattle.lt_hol.specs.Faults.{DeclaresType, DeclaresConst, cut};
-ghost use Rattle.lt_hol.specs.declared.line.Line.TheVariants as line;
 ghost use Rattle.lt_store.specs.Trees.{tree_at};
 ghost use Rattle.lt_kernel2.specs.Lines.{IsGoodLine};
 ghost use Rattle.lt_kernel2.specs.Sequents.{IsWithin};
-ghost use Rattle.lt_kernel2.specs.State.{sequents, statements, step_of, Answers, Keeps, Names};
+ghost use Rattle.lt_kernel2.specs.State.{step_of, Answers, Keeps, Names};
 
 use crate::derive::derive;
 use crate::rule_fault::RuleFault;
@@ -200,38 +198,6 @@ impl<S: TermStore + Drop> Proof<S> {
         self.signature.back(mark.sig);
         self.named.truncate(mark.statements);
         self.steps.clear();
-    }
-
-    /// From nothing: `p |- p`. `NotBool`.
-    pub fn assume(&mut self, alloc: Global, p: Id) -> Result<usize, RuleFault>
-        requires p { p < length self.old.nodes }
-        requires typed { nameless_fault self.old.signature (tree_at self.old.nodes p) ≡ None }
-        ensures { Answers self.old self.new (line.Assume p) result (nameless_assume_gives self.old.signature (tree_at self.old.nodes p)) }
-    {
-        self.apply(alloc, &Line::Assume(p))
-    }
-
-    /// From `H |- q`: `H` without `p |- p --> q`. `MissingLine`, `NotBool`.
-    pub fn impI(&mut self, alloc: Global, p: Id, i: usize) -> Result<usize, RuleFault>
-        requires p { p < length self.old.nodes }
-        requires typed { nameless_fault self.old.signature (tree_at self.old.nodes p) ≡ None }
-        ensures { Answers self.old self.new (line.ImpI p i) result (nameless_impI_gives self.old.signature (sequents self.old) (tree_at self.old.nodes p) i) }
-    {
-        self.apply(alloc, &Line::ImpI(p, i))
-    }
-
-    /// From `H |- p --> q` and `K |- p`: `H, K |- q`. `MissingLine`, `NotImplication`, `MiddleDiffers`.
-    pub fn mp(&mut self, alloc: Global, i: usize, j: usize) -> Result<usize, RuleFault>
-        ensures { Answers self.old self.new (line.Mp i j) result (nameless_mp_gives (sequents self.old) i j) }
-    {
-        self.apply(alloc, &Line::Mp(i, j))
-    }
-
-    /// `|-` the statement of the label. `UnknownLabel`.
-    pub fn thm(&mut self, alloc: Global, label: Name) -> Result<usize, RuleFault>
-        ensures { Answers self.old self.new (line.Thm label) result (nameless_thm_gives (statements self.old) label) }
-    {
-        self.apply(alloc, &Line::Thm(label))
     }
 }
 
