@@ -22,11 +22,9 @@ mod rule_fault;
 mod sequent;
 mod shapes;
 mod steps;
-mod storing;
 mod typing;
 mod word;
 
 pub use proof::{Proof, ProofMark};
 pub use rule_fault::RuleFault;
 pub use sequent::{Sequent, Step};
-pub use typing::type_at;

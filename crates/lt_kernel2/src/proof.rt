@@ -14,10 +14,9 @@ use crate::derive::derive;
 use crate::rule_fault::RuleFault;
 use crate::sequent::{Sequent, Step};
 use crate::steps::step_at;
-use crate::storing::to_store;
 use indexmap::IndexMap;
 use lt_hol::{Line, Memory, Name, SigMark, Signature, Term, TryCopy, Ty, TypeFault};
-use lt_store::{Id, TermStore};
+use lt_store::{Id, TermStore, to_store};
 use std::alloc::Global;
 use std::marker::Model;
 
