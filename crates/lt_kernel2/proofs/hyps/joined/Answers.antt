@@ -1,7 +1,7 @@
 use Rattle.std.proofs.Common.{◌∙◌}
 use Rattle.lt_store.proofs.Lists.{AllBelow-push}
 use Rattle.lt_kernel2.proofs.Hypotheses.{union-more}
-use Rattle.lt_kernel2.proofs.hyps.union.Goals as goal
+use Rattle.lt_kernel2.proofs.hyps.joined.Goals as goal
 
 pub loop-h-preserved-then-branch : goal.loop-h-preserved-then-branch
 loop-h-preserved-then-branch g c = record {

@@ -1,7 +1,7 @@
 use Rattle.std.proofs.Common.{◌≡◌, length, take}
 use Rattle.lt_definitions.specs.NamelessRules.{nameless_without}
 use Rattle.lt_store.specs.Trees.{tree_at, trees, AllBelow}
-use Rattle.lt_kernel2.proofs.hyps.without.Given as goal
+use Rattle.lt_kernel2.proofs.hyps.left_of.Given as goal
 
 abbrev pub invariant-loop-h : goal.invariant-loop-h
 invariant-loop-h g l =

@@ -1,6 +1,6 @@
 use Rattle.lt_store.proofs.Lists.{AllBelow-push}
 use Rattle.lt_kernel2.proofs.Hypotheses.{without-more}
-use Rattle.lt_kernel2.proofs.hyps.without.Goals as goal
+use Rattle.lt_kernel2.proofs.hyps.left_of.Goals as goal
 
 pub loop-h-preserved-then-branch : goal.loop-h-preserved-then-branch
 loop-h-preserved-then-branch g c = record {

@@ -1,7 +1,7 @@
 use Rattle.std.proofs.Common.{◌≡◌, length, drop}
 use Rattle.lt_definitions.specs.NamelessRules.{nameless_union}
 use Rattle.lt_store.specs.Trees.{trees, AllBelow}
-use Rattle.lt_kernel2.proofs.hyps.union.Given as goal
+use Rattle.lt_kernel2.proofs.hyps.joined.Given as goal
 
 abbrev pub invariant-loop-h : goal.invariant-loop-h
 invariant-loop-h g l =
