@@ -4,3 +4,11 @@ pub mod Lookups
 pub mod TypeFaults
 pub mod Places
 pub mod Replacements
+pub mod OpenBinders
+pub mod BinderPasses
+pub mod NodeEquality
+pub mod DistinctTypes
+pub mod TypeNumbers
+pub mod VariableNames
+pub mod ReadTypes
+pub mod TypingSteps

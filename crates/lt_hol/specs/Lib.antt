@@ -6,3 +6,8 @@ pub mod Lines
 pub mod Items
 pub mod FreeNodes
 pub mod BoundNames
+pub mod Scopes
+pub mod TypeTables
+pub mod Instances
+pub mod Makings
+pub mod Outcomes

@@ -1,20 +1,28 @@
 //! Names, types, terms and signatures of higher-order logic.
 #![tactic(auto)]
 
+mod binder_types;
 mod bound_names;
 mod check_type;
 mod form_part;
+mod instance;
 mod item;
 mod line;
 mod lines;
+mod outcome;
+mod pending;
 mod property;
+mod read_type;
 mod reason;
 mod replacing;
+mod scope;
 mod signature;
 mod term;
 mod term_builder;
 mod type_fault;
-mod type_of;
+mod type_table;
+mod type_variables;
+mod typing;
 
 pub use bound_names::{Binder, binders};
 pub use form_part::{PropertyPart, QuotientPart, RelatorPart, RulePart};
@@ -32,6 +40,7 @@ pub use signature::{SigMark, Signature};
 pub use term::{Term, TermNode};
 pub use term_builder::TermBuilder;
 pub use type_fault::TypeFault;
+pub use type_table::TypeTable;
 
 /// A list of terms.
 pub type Terms = List<Term>;

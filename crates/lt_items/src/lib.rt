@@ -10,3 +10,6 @@ mod types;
 
 pub use item::item_of_notes;
 pub use next::next_item;
+
+#[cfg(test)]
+mod tests;

@@ -3,3 +3,5 @@ pub mod Sequents
 pub mod Lines
 pub mod State
 pub mod Shapes
+pub mod Redexes
+pub mod FunctionTypes

@@ -1,5 +1,5 @@
 //! Terms that are equations, implications or universal statements.
-ghost use Rattle.std.specs.Prelude.{◌≡◌, ◌<◌, length, codes, IsTrue, IfSome, nat_lt};
+ghost use Rattle.std.specs.Prelude.{◌≡◌, ◌<◌, length, codes, IsTrue, IfOk, IfSome, nat_lt};
 ghost use Rattle.std.specs.List.{list_all};
 ghost use Rattle.std.specs.Option.{option_copied, option_map};
 ghost use Rattle.lt_definitions.specs.NamelessRules.{nameless_as_equation, nameless_as_implication, nameless_as_forall};
@@ -7,21 +7,22 @@ ghost use Rattle.lt_store.specs.Trees.{tree_at};
 ghost use Rattle.lt_kernel2.specs.Shapes.{is_imp, only_type, type_argument};
 
 use crate::word::is_word;
-use lt_hol::{Ty, Tys};
+use lt_hol::{Memory, TryCopy, Ty, Tys};
 use lt_store::{Id, TermStore, View};
+use std::alloc::Global;
 
 /// The type and the sides of an equation.
-#[derive(Clone, Copy, Debug)]
-pub struct Equation<'a> {
-    pub ty: &'a Ty,
+#[derive(Debug, Drop)]
+pub struct Equation {
+    pub ty: Ty,
     pub left: Id,
     pub right: Id,
 }
 
 /// The type and the predicate of a universal statement.
-#[derive(Clone, Copy, Debug)]
-pub struct Universal<'a> {
-    pub ty: &'a Ty,
+#[derive(Debug, Drop)]
+pub struct Universal {
+    pub ty: Ty,
     pub predicate: Id,
 }
 
@@ -66,20 +67,27 @@ fn is_imp<S: TermStore>(store: &S, t: Id) -> bool
 }
 
 /// The type and the sides of an equation.
-pub fn as_equation<S: TermStore>(store: &S, t: Id) -> Option<Equation<'_>>
+pub fn as_equation<S: TermStore>(
+    alloc: Global,
+    store: &S,
+    t: Id,
+) -> Result<Option<Equation>, Memory>
     requires { t < length (S.nodes store.now) }
-    ensures parts { option_map (λ e. (e.ty.now, tree_at (S.nodes store.now) e.left, tree_at (S.nodes store.now) e.right)) result ≡ nameless_as_equation (tree_at (S.nodes store.now) t) }
-    ensures within { IfSome result (λ e. (e.left < length (S.nodes store.now)) × (e.right < length (S.nodes store.now))) }
+    ensures parts { IfOk result (λ o. option_map (λ e. (e.ty, tree_at (S.nodes store.now) e.left, tree_at (S.nodes store.now) e.right)) o ≡ nameless_as_equation (tree_at (S.nodes store.now) t)) }
+    ensures within { IfOk result (λ o. IfSome o (λ e. (e.left < length (S.nodes store.now)) × (e.right < length (S.nodes store.now)))) }
 {
     match store.view(t) {
         View::App(head, right) => match store.view(head) {
             View::App(constant, left) => match type_argument(store, constant, "eq") {
-                Some(ty) => Some(Equation { ty, left, right }),
-                None => None,
+                Some(ty) => {
+                    let ty = ty.copy(alloc)?;
+                    Ok(Some(Equation { ty, left, right }))
+                }
+                None => Ok(None),
             },
-            _ => None,
+            _ => Ok(None),
         },
-        _ => None,
+        _ => Ok(None),
     }
 }
 
@@ -105,16 +113,19 @@ pub fn as_implication<S: TermStore>(store: &S, t: Id) -> Option<(Id, Id)>
 }
 
 /// The type and the predicate of a universal statement.
-pub fn as_forall<S: TermStore>(store: &S, t: Id) -> Option<Universal<'_>>
+pub fn as_forall<S: TermStore>(alloc: Global, store: &S, t: Id) -> Result<Option<Universal>, Memory>
     requires { t < length (S.nodes store.now) }
-    ensures parts { option_map (λ u. (u.ty.now, tree_at (S.nodes store.now) u.predicate)) result ≡ nameless_as_forall (tree_at (S.nodes store.now) t) }
-    ensures within { IfSome result (λ u. u.predicate < length (S.nodes store.now)) }
+    ensures parts { IfOk result (λ o. option_map (λ u. (u.ty, tree_at (S.nodes store.now) u.predicate)) o ≡ nameless_as_forall (tree_at (S.nodes store.now) t)) }
+    ensures within { IfOk result (λ o. IfSome o (λ u. u.predicate < length (S.nodes store.now))) }
 {
     match store.view(t) {
         View::App(constant, predicate) => match type_argument(store, constant, "all") {
-            Some(ty) => Some(Universal { ty, predicate }),
-            None => None,
+            Some(ty) => {
+                let ty = ty.copy(alloc)?;
+                Ok(Some(Universal { ty, predicate }))
+            }
+            None => Ok(None),
         },
-        _ => None,
+        _ => Ok(None),
     }
 }

@@ -23,11 +23,18 @@ use Rattle.lt_theory.specs.Standing.{StandsFor}
 use Rattle.lt_run.specs.declared.walk.Cut.{Cut}
 use Rattle.lt_run.specs.declared.counts.Counts.{Counts}
 use Rattle.lt_run.specs.Counts.{counts_of, CountsOneMore}
-use Rattle.lt_run.specs.Walking.{IsOfForm, IsLeftOfForm, HasCome}
+use Rattle.lt_run.specs.Walking.{IsOfForm, IsLeftOfForm}
 use Rattle.lt_run.specs.Reports.{IsReported, IsCutShort}
 use Rattle.lt_run.proofs.Fronts.{Grew-none, front_none, front_all, front_behind, front_longer}
 use Rattle.lt_run.proofs.Lengths.{begins_few, text_shortens}
 use Rattle.lt_run.proofs.WalkEnds.{context_more, valid_more, lines_of, lines_more, reported_accepted, reported_at, reported_none, walk_accepted, walk_not_built, walk_at, ends}
+
+-- These items of a text were accepted: this is left of it behind them, the theory is theirs, and the counts are.
+pub record HasCome (text : List ℕ) (items : List Item) (s : Left) (state : State) (counts : Counts) : Type 0 where
+  pub begins : Begins text items s
+  pub valid : IsPlainTheory items
+  pub stands : StandsFor (context_of empty items) state
+  pub counted : counts ≡ counts_of items
 
 -- some items of the text were accepted, and their lines were written
 pub record IsOnWay (text : List ℕ) (s : Left) (state : State) (counts : Counts) (before now : Option (List ℕ)) : Type 0 where

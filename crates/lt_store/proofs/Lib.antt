@@ -6,3 +6,7 @@ pub mod Images
 pub mod Tasks
 pub mod Lists
 pub mod StoredTerms
+pub mod TypeNumbers
+pub mod TypeTasks
+pub mod BinderNames
+pub mod NameTasks

@@ -5,3 +5,6 @@ pub mod Parts
 pub mod Passes
 pub mod Tasks
 pub mod Stacks
+pub mod TypeNumbers
+pub mod TypeTasks
+pub mod NameTasks

@@ -3,6 +3,7 @@
 
 mod change;
 mod image;
+mod last;
 mod memo;
 mod naming;
 mod node;
@@ -12,6 +13,8 @@ mod plain_store;
 mod same;
 mod storing;
 mod term_store;
+mod type_numbers;
+mod type_work;
 mod typing;
 
 pub use naming::from_store;

@@ -1,22 +1,15 @@
 //! Terms with binder names into a store.
-ghost use Rattle.std.specs.Prelude.{◌≡◌, ◌<◌, ◌≤◌, ◌++◌, [], ◌∷◌, length, IfOk, IsSome};
+ghost use Rattle.std.specs.Prelude.{◌≡◌, ◌<◌, ◌≤◌, [], ◌∷◌, length, IfOk, IsSome};
 ghost use Rattle.lt_definitions.specs.Nameless.{nameless, IsWhole};
 ghost use Rattle.lt_store.specs.Trees.{tree_at, AllBelow, Extends};
 ghost use Rattle.lt_store.specs.Stacks.{stack, joined, covered, index_of, grown, HasParts};
 
+use crate::last::take_last;
 use crate::node::Id;
 use crate::term_store::TermStore;
 use lt_hol::{Binder, Term, TermNode, binders};
 use lt_types::{Memory, TryCopy, Ty};
 use std::alloc::Global;
-
-/// The last id, which is taken away.
-fn take_last(ids: &mut Vec<Id>) -> Id
-    requires { 1 ≤ length ids.old.items }
-    ensures { ids.old.items ≡ ids.new.items ++ result ∷ [] }
-{
-    ids.pop().unwrap()
-}
 
 /// The number of binders between a bound name and its own.
 fn index_of(binder: Option<Binder>) -> usize

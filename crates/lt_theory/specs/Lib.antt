@@ -1,3 +1,4 @@
+pub mod FreeNodes
 pub mod Small
 pub mod Refusing
 pub mod Standing

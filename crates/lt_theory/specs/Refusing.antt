@@ -1,5 +1,5 @@
 -- What a test of an item answers.
-use Rattle.std.specs.Prelude.{◌≡◌, List, [], ◌∷◌, Option, None, IsSome, Result, Ok, Err}
+use Rattle.std.specs.Prelude.{◌≡◌, [], ◌∷◌, Option, None, IsSome, Result, Ok, Err}
 use Rattle.lt_definitions.specs.Terms.{TermTree}
 use Rattle.lt_definitions.specs.Typing.{Signature, typed}
 use Rattle.lt_definitions.specs.Theory.{Refusal, first_of, boolean_test, closed_test}

@@ -1,6 +1,6 @@
 -- The items that are checked: all but definitions and typedefs.
 use Rattle.std.specs.Prelude.{Bool, true, false}
-use Rattle.lt_definitions.specs.Items.{Item, type_item, const_item, axiom_item, def_item, typedef_item, lemma_item}
+use Rattle.lt_definitions.specs.Items.{Item, def_item, typedef_item}
 
 abbrev pub is_small : Item → Bool
 is_small (def_item n ty body) = false

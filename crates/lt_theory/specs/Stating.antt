@@ -1,5 +1,5 @@
 -- What it is to name a statement.
-use Rattle.std.specs.Prelude.{◌≡◌, List, [], ◌∷◌, None, IsSome, Result, Ok, Err}
+use Rattle.std.specs.Prelude.{◌≡◌, [], ◌∷◌, None, IsSome, Result, Ok, Err}
 use Rattle.lt_definitions.specs.Types.{Chars}
 use Rattle.lt_definitions.specs.Terms.{TermTree}
 use Rattle.lt_definitions.specs.Items.{Context, with_statements}

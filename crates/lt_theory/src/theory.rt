@@ -5,7 +5,9 @@ ghost use Rattle.lt_hol.specs.Items.{item_of};
 ghost use Rattle.lt_theory.specs.Small.{is_small};
 ghost use Rattle.lt_theory.specs.Standing.{StandsFor, Adds};
 
+use crate::declaring::{add_const, add_type};
 use crate::fault::Fault;
+use crate::stating::{add_axiom, add_lemma};
 use lt_hol::{Item, Memory, Signature};
 use lt_kernel2::Proof;
 use lt_store::PlainStore;
@@ -43,10 +45,18 @@ impl Theory {
     }
 
     /// Adds an item where it is valid over those before it; else it is refused. After an error the theory is of no use.
-    pub fn add_item(&mut self, _alloc: Global, _item: &Item) -> Result<(), Fault>
-        requires { is_small (item_of _item.now) ≡ true }
-        ensures { (ctx : Context) → StandsFor ctx self.old → Adds ctx (item_of _item.now) self.new result }
+    pub fn add_item(&mut self, alloc: Global, item: &Item) -> Result<(), Fault>
+        requires { is_small (item_of item.now) ≡ true }
+        ensures { (ctx : Context) → StandsFor ctx self.old → Adds ctx (item_of item.now) self.new result }
     {
-        Err(Fault::Memory)
+        match item {
+            Item::TypeDecl(name, arity) => add_type(alloc, &mut self.proof, name, *arity),
+            Item::ConstDecl(name, ty) => add_const(alloc, &mut self.proof, name, ty),
+            Item::Axiom(label, statement) => add_axiom(alloc, &mut self.proof, label, statement),
+            Item::Lemma(label, statement, lines) => {
+                add_lemma(alloc, &mut self.proof, label, statement, lines)
+            }
+            Item::Def(_, _, _) | Item::Typedef(_, _, _, _, _, _) => unreachable!(),
+        }
     }
 }
