@@ -4,3 +4,6 @@ pub mod Lookups
 pub mod TypeFaults
 pub mod Places
 pub mod Replacements
+pub mod BinderLengths
+pub mod NewNames
+pub mod LongNames

@@ -5,3 +5,4 @@ pub mod TypeNodes
 pub mod Lines
 pub mod Items
 pub mod FreeNodes
+pub mod NodeNames

@@ -2,6 +2,7 @@
 #![tactic(auto)]
 
 mod check_type;
+mod closing;
 mod form_part;
 mod item;
 mod line;
@@ -14,6 +15,7 @@ mod term;
 mod term_builder;
 mod type_fault;
 
+pub use closing::close_free;
 pub use form_part::{PropertyPart, QuotientPart, RelatorPart, RulePart};
 pub use item::Item;
 pub use line::Line;
