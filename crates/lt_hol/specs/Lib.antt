@@ -6,3 +6,4 @@ pub mod Lines
 pub mod Items
 pub mod FreeNodes
 pub mod NodeNames
+pub mod BoundNames

@@ -1,6 +1,7 @@
 //! Names, types, terms and signatures of higher-order logic.
 #![tactic(auto)]
 
+mod bound_names;
 mod check_type;
 mod closing;
 mod form_part;
@@ -15,6 +16,7 @@ mod term;
 mod term_builder;
 mod type_fault;
 
+pub use bound_names::{Binder, binders};
 pub use closing::close_free;
 pub use form_part::{PropertyPart, QuotientPart, RelatorPart, RulePart};
 pub use item::Item;
