@@ -7,3 +7,4 @@ pub mod Replacements
 pub mod BinderLengths
 pub mod NewNames
 pub mod LongNames
+pub mod Signs

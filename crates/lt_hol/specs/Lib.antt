@@ -7,3 +7,4 @@ pub mod Items
 pub mod FreeNodes
 pub mod NodeNames
 pub mod BoundNames
+pub mod AlikeNodes

@@ -1,6 +1,7 @@
 //! Names, types, terms and signatures of higher-order logic.
 #![tactic(auto)]
 
+mod alpha;
 mod bound_names;
 mod check_type;
 mod closing;
@@ -16,6 +17,7 @@ mod term;
 mod term_builder;
 mod type_fault;
 
+pub use alpha::alpha_eq;
 pub use bound_names::{Binder, binders};
 pub use closing::close_free;
 pub use form_part::{PropertyPart, QuotientPart, RelatorPart, RulePart};
