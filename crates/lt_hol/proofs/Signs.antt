@@ -1,6 +1,9 @@
 -- Alpha equality over the nodes of terms: the nodes without what alpha equality passes over are those of the nameless form.
-use Rattle.std.proofs.Common.{◌≡◌, inl, inr, ℕ, suc, ◌+◌, ◌<◌, List, [], ◌∷◌, ◌++◌, Bool, true, false, ◌&&◌, length, map, drop, get_or, nat_eq, Option, Some, None, refl, sym, ◌∙◌, ap, arith, add-one, append_assoc, append-nil, length-append}
+use Rattle.std.proofs.Common.{◌≡◌, inl, inr, ℕ, suc, ◌+◌, ◌<◌, ◌≤◌, List, [], ◌∷◌, ◌++◌, Bool, true, false, ◌&&◌, length, map, drop, get_or, nat_eq, Option, Some, None, refl, sym, ◌∙◌, ap, arith, add-one, append_assoc, append-nil, length-append}
 use Rattle.std.proofs.Math.Seq.{drop-cons}
+use Rattle.std.proofs.Math.ListN.{drop_of_length-le}
+use Rattle.std.proofs.lemmas.List.{get_or_default}
+use Rattle.std.specs.Cmp.Lexicographic.{pointwise}
 use Rattle.std.proofs.lemmas.Bool.Decides.{nat_tests}
 use Rattle.lt_definitions.specs.Types.{Chars, same_name, TypeTree, same_type, same_types, row}
 use Rattle.lt_definitions.specs.Terms.{TermTree, free_variable, bound_name, constant, application, abstraction}
@@ -14,22 +17,25 @@ use Rattle.lt_hol.specs.declared.term.TermNode.TheVariants.{Free, Bound, Const, 
 use Rattle.lt_hol.specs.declared.bound_names.Binder.{Binder}
 use Rattle.lt_hol.specs.Layout.{under, term_size, term_nodes}
 use Rattle.lt_hol.specs.BoundNames.{Places, further, binder_of, binders_in}
-use Rattle.lt_hol.specs.AlikeNodes.{agrees, agree}
+use Rattle.lt_hol.specs.AlikeNodes.{is_constant, agrees, agree}
 use Rattle.lt_hol.proofs.Nodes.{length-term_nodes}
 
 -- a node without what alpha equality passes over
 data Sign : Type 0 where
   free_sign : Chars → TypeTree → Sign
-  bound_sign : ℕ → Sign
-  loose_sign : Chars → Sign
+  name_sign : Nameless → Sign
   constant_sign : Chars → List TypeTree → Sign
   application_sign : Sign
   abstraction_sign : TypeTree → Sign
 
+-- a bound name by its binder
+abbrev named : Chars → Option Binder → Nameless
+named x None = nameless_loose x
+named x (Some b) = nameless_bound b.index
+
 abbrev sign : TermNode → Option Binder → Sign
 sign (Free x t) b = free_sign x t
-sign (Bound x) (Some b) = bound_sign b.index
-sign (Bound x) None = loose_sign x
+sign (Bound x) b = name_sign (named x b)
 sign (Const c ts) b = constant_sign c ts
 sign (App f a) b = application_sign
 sign (Lam x t i) b = abstraction_sign t
@@ -41,8 +47,8 @@ signs _ _ = []
 -- the same of a nameless term
 abbrev signs_of : Nameless → List Sign
 signs_of (nameless_free x t) = free_sign x t ∷ []
-signs_of (nameless_bound i) = bound_sign i ∷ []
-signs_of (nameless_loose x) = loose_sign x ∷ []
+signs_of (nameless_bound i) = name_sign (nameless_bound i) ∷ []
+signs_of (nameless_loose x) = name_sign (nameless_loose x) ∷ []
 signs_of (nameless_constant c ts) = constant_sign c ts ∷ []
 signs_of (nameless_application f a) = signs_of f ++ (signs_of a ++ application_sign ∷ [])
 signs_of (nameless_abstraction t b) = signs_of b ++ abstraction_sign t ∷ []
@@ -59,8 +65,7 @@ bound_over t [] = []
 
 abbrev read : List Nameless → Sign → List Nameless
 read before (free_sign x t) = nameless_free x t ∷ before
-read before (bound_sign i) = nameless_bound i ∷ before
-read before (loose_sign x) = nameless_loose x ∷ before
+read before (name_sign n) = n ∷ before
 read before (constant_sign c ts) = nameless_constant c ts ∷ before
 read before application_sign = joined before
 read before (abstraction_sign t) = bound_over t before
@@ -97,10 +102,6 @@ one-reading s t e = sym (read-whole s) ∙ ap (λ ss. head (read_all [] ss)) e �
 
 abbrev pub names : Places → List Chars
 names ps = map (λ p. p.0) ps
-
-abbrev named : Chars → Option Binder → Nameless
-named x None = nameless_loose x
-named x (Some b) = nameless_bound b.index
 
 deeper-named : (x : Chars) (b : Option Binder) → deeper (named x b) ≡ named x (further b)
 deeper-named x None = refl
@@ -161,8 +162,8 @@ true-number i j e = grind (arith, nat_tests)
 agrees-is : (n : TermNode) (b : Option Binder) (m : TermNode) (c : Option Binder) → agrees n b m c ≡ true → sign n b ≡ sign m c
 agrees-is (Free x t) b (Free y u) c e =
     let h = both-true (same_name x y) (same_type t u) e in λ i. free_sign (name-true x y h.0 i) (type-true t u h.1 i)
-agrees-is (Bound x) (Some b) (Bound y) (Some c) e = ap bound_sign (number-true b.index c.index e)
-agrees-is (Bound x) None (Bound y) None e = ap loose_sign (name-true x y e)
+agrees-is (Bound x) (Some b) (Bound y) (Some c) e = ap (λ i. name_sign (nameless_bound i)) (number-true b.index c.index e)
+agrees-is (Bound x) None (Bound y) None e = ap (λ z. name_sign (nameless_loose z)) (name-true x y e)
 agrees-is (Const k ts) b (Const d us) c e =
     let h = both-true (same_name k d) (same_types (row ts) (row us)) e in λ i. constant_sign (name-true k d h.0 i) (row-true ts us h.1 i)
 agrees-is (App f a) b (App g j) c e = refl
@@ -217,8 +218,8 @@ pub as-many : (t : TermTree) (nodes : List TermNode) (bs : List (Option Binder))
 as-many t nodes bs n b = ap length b ∙ binder-each t ∙ ap length (sym n)
 
 pub alpha-differs : (s t : TermTree) → (term_size s ≡ term_size t → ⊥) → is_alpha s t ≡ false
-alpha-differs s t no = elim (bool_cases (is_alpha s t)) [
-  | inl h ↦ absurd (no (sym (length-term_nodes 0 s) ∙ sym (length-signs (term_nodes 0 s) (binders_in 0 [] s) (binder-each s))
+alpha-differs s t differ = elim (bool_cases (is_alpha s t)) [
+  | inl h ↦ absurd (differ (sym (length-term_nodes 0 s) ∙ sym (length-signs (term_nodes 0 s) (binders_in 0 [] s) (binder-each s))
       ∙ ap length (alpha-signs s t h) ∙ length-signs (term_nodes 0 t) (binders_in 0 [] t) (binder-each t) ∙ length-term_nodes 0 t))
   | inr h ↦ h
 ]
@@ -241,10 +242,39 @@ alpha-vectors s t ns bs ms cs n b m c = (λ i. agree (n i) (b i) (m i) (c i)) �
 next : {A : Type 0} (xs : List A) (i : ℕ) (x : A) → i < length xs → x ≡ get_or xs i x → drop i xs ≡ x ∷ drop (i + 1) xs
 next xs i x h e = drop-cons xs i x h ∙ ap (λ y. y ∷ drop (suc i) xs) (sym e) ∙ ap (λ k. x ∷ drop k xs) (sym (add-one i))
 
-pub agree-next : (ns : List TermNode) (bs : List (Option Binder)) (ms : List TermNode) (cs : List (Option Binder)) (i : ℕ) (n : TermNode) (b : Option Binder) (m : TermNode) (c : Option Binder)
-    → i < length ns → length ns ≡ length ms → length bs ≡ length ns → length cs ≡ length ms
-    → n ≡ get_or ns i n → b ≡ get_or bs i b → m ≡ get_or ms i m → c ≡ get_or cs i c
-    → agree (drop i ns) (drop i bs) (drop i ms) (drop i cs) ≡ (agrees n b m c && agree (drop (i + 1) ns) (drop (i + 1) bs) (drop (i + 1) ms) (drop (i + 1) cs))
-agree-next ns bs ms cs i n b m c h same left right en eb em ec =
+pub agree-next : (ns : List TermNode) (bs : List (Option Binder)) (ms : List TermNode) (cs : List (Option Binder)) (i : ℕ) (n m : TermNode)
+    → i < length ns → length ns ≡ length ms → length bs ≡ length ns → length cs ≡ length ms → n ≡ get_or ns i n → m ≡ get_or ms i m
+    → agree (drop i ns) (drop i bs) (drop i ms) (drop i cs) ≡ (agrees n (get_or bs i None) m (get_or cs i None) && agree (drop (i + 1) ns) (drop (i + 1) bs) (drop (i + 1) ms) (drop (i + 1) cs))
+agree-next ns bs ms cs i n m h same left right en em =
     let hb : i < length bs = omega (arith, h, left) in let hm : i < length ms = omega (arith, h, same) in let hc : i < length cs = omega (arith, h, same, right) in
-    λ j. agree (next ns i n h en j) (next bs i b hb eb j) (next ms i m hm em j) (next cs i c hc ec j)
+    λ j. agree (next ns i n h en j) (next bs i (get_or bs i None) hb (get_or_default bs i None (get_or bs i None) hb) j)
+    (next ms i m hm em j) (next cs i (get_or cs i None) hc (get_or_default cs i None (get_or cs i None) hc) j)
+
+-- a node that agrees, and one that doesn't
+pub agree-more : (whole : Bool) (ns : List TermNode) (bs : List (Option Binder)) (ms : List TermNode) (cs : List (Option Binder)) (i : ℕ) (n m : TermNode) (r : Bool)
+    → i < length ns → length ns ≡ length ms → length bs ≡ length ns → length cs ≡ length ms → n ≡ get_or ns i n → m ≡ get_or ms i m
+    → r ≡ agrees n (get_or bs i None) m (get_or cs i None) → whole ≡ agree (drop i ns) (drop i bs) (drop i ms) (drop i cs)
+    → whole ≡ (r && agree (drop (i + 1) ns) (drop (i + 1) bs) (drop (i + 1) ms) (drop (i + 1) cs))
+agree-more whole ns bs ms cs i n m r h same left right en em e w =
+    w ∙ agree-next ns bs ms cs i n m h same left right en em
+    ∙ ap (λ (b : Bool). b && agree (drop (i + 1) ns) (drop (i + 1) bs) (drop (i + 1) ms) (drop (i + 1) cs)) (sym e)
+
+pub agree-end : (ns : List TermNode) (bs : List (Option Binder)) (ms : List TermNode) (cs : List (Option Binder)) (i : ℕ)
+    → length ns ≤ i → length ns ≡ length ms → length bs ≡ length ns → length cs ≡ length ms → agree (drop i ns) (drop i bs) (drop i ms) (drop i cs) ≡ true
+agree-end ns bs ms cs i h same left right =
+    let hb : length bs ≤ i = omega (arith, h, left) in let hm : length ms ≤ i = omega (arith, h, same) in let hc : length cs ≤ i = omega (arith, h, same, right) in
+    λ j. agree (drop_of_length-le ns h j) (drop_of_length-le bs hb j) (drop_of_length-le ms hm j) (drop_of_length-le cs hc j)
+
+-- a constant with its type arguments
+
+same-rows : (ts us : List TypeTree) → pointwise same_type ts us ≡ same_types (row ts) (row us)
+same-rows [] [] = refl
+same-rows [] (u ∷ us) = refl
+same-rows (t ∷ ts) [] = refl
+same-rows (t ∷ ts) (u ∷ us) = ap (λ (b : Bool). same_type t u && b) (same-rows ts us)
+
+pub constant-found : (r e : Bool) (c d : Chars) (ts us xs ys : List TypeTree) (node : TermNode) → node ≡ Const d us → e ≡ same_name c d → e ≡ true → xs ≡ ts → ys ≡ us → r ≡ pointwise same_type xs ys
+    → r ≡ is_constant c ts node
+constant-found r e c d ts us xs ys node is same h x y found =
+    found ∙ (λ i. pointwise same_type (x i) (y i)) ∙ same-rows ts us
+    ∙ ap (λ (b : Bool). b && same_types (row ts) (row us)) (sym h ∙ same) ∙ ap (is_constant c ts) (sym is)
