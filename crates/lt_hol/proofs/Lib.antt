@@ -8,3 +8,5 @@ pub mod BinderLengths
 pub mod NewNames
 pub mod LongNames
 pub mod Signs
+pub mod OpenNodes
+pub mod SharedTrees

@@ -8,3 +8,5 @@ pub mod FreeNodes
 pub mod NodeNames
 pub mod BoundNames
 pub mod AlikeNodes
+pub mod Openings
+pub mod Tasks

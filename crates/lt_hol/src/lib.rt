@@ -9,9 +9,11 @@ mod form_part;
 mod item;
 mod line;
 mod lines;
+mod opening;
 mod property;
 mod reason;
 mod replacing;
+mod shared_nodes;
 mod signature;
 mod term;
 mod term_builder;
@@ -28,6 +30,7 @@ pub use lt_types::{
     Ids, List, Memory, Name, Names, TryCopy, Ty, TyBuilder, TyMap, TyNode, Tys, is_name,
     match_type, tsub,
 };
+pub use opening::open_binder;
 pub use property::Property;
 pub use reason::Reason;
 pub use replacing::subst_free;
