@@ -10,3 +10,7 @@ pub mod LongNames
 pub mod Signs
 pub mod OpenNodes
 pub mod SharedTrees
+pub mod NodeInstances
+pub mod TermPlaces
+pub mod NumberedNames
+pub mod DigitNames

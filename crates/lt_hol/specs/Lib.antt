@@ -10,3 +10,5 @@ pub mod BoundNames
 pub mod AlikeNodes
 pub mod Openings
 pub mod Tasks
+pub mod TypeInstances
+pub mod Numberings

@@ -9,6 +9,7 @@ mod form_part;
 mod item;
 mod line;
 mod lines;
+mod numbering;
 mod opening;
 mod property;
 mod reason;
@@ -17,7 +18,9 @@ mod shared_nodes;
 mod signature;
 mod term;
 mod term_builder;
+mod term_instances;
 mod type_fault;
+mod up_to_types;
 
 pub use alpha::alpha_eq;
 pub use bound_names::{Binder, binders};
@@ -37,7 +40,9 @@ pub use replacing::subst_free;
 pub use signature::{SigMark, Signature};
 pub use term::{Term, TermNode};
 pub use term_builder::TermBuilder;
+pub use term_instances::term_instance;
 pub use type_fault::TypeFault;
+pub use up_to_types::same_up_to_types;
 
 /// A list of terms.
 pub type Terms = List<Term>;
