@@ -29,11 +29,13 @@ t-starts = refl
 
 one-of : (from n d : ℕ) → may_all from n ≡ true → from ≤ d → d < from + n → may_stand false d ≡ true
 one-of from zero d h low high = absurd (omega (arith, low, high))
-one-of from (suc n) d h low high = by (d - from) refl
+one-of from (suc n) d h low high =
+    let k = both-true (may_stand false from) (may_all (suc from) n) h in
+    by (d - from) refl k.0 (λ above. one-of (suc from) n d k.1 above (omega (arith, high)))
   where
-    by : (k : ℕ) → d - from ≡ k → may_stand false d ≡ true
-    by zero e = let same : from ≡ d = omega (arith, low, e) in subst (λ (c : ℕ). may_stand false c ≡ true) same (both-true (may_stand false from) (may_all (suc from) n) h).0
-    by (suc k) e = one-of (suc from) n d (both-true (may_stand false from) (may_all (suc from) n) h).1 (omega (arith, low, e)) (omega (arith, high))
+    by : (k : ℕ) → d - from ≡ k → may_stand false from ≡ true → (suc from ≤ d → may_stand false d ≡ true) → may_stand false d ≡ true
+    by zero e first later = let same : from ≡ d = omega (arith, low, e) in subst (λ (c : ℕ). may_stand false c ≡ true) same first
+    by (suc k) e first later = later (omega (arith, low, e))
 
 goes-on : (ds : List ℕ) → AllDigits 10 ds → name_goes_on false ds ≡ true
 goes-on [] h = refl

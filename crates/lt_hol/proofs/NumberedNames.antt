@@ -158,7 +158,7 @@ below-parts : (count : ℕ) (n : TermNode) → IsWithin count n → AreBelow cou
 below-parts count (Free x ty) h = tt
 below-parts count (Bound x) h = tt
 below-parts count (Const c ts) h = tt
-below-parts count (App f a) h = (h.1, h.0, tt)
+below-parts count (App f a) h = (h.1, (h.0, tt))
 below-parts count (Lam x ty b) h = (h, tt)
 
 -- the names of the terms at these places, the next place last, are still to come
@@ -221,6 +221,6 @@ pub walk-smaller : (t : TermTree) (places left after : List ℕ) (at : ℕ) (n :
 walk-smaller t places left after at n e is put =
     let nodes : List TermNode = term_nodes 0 t in
     let before : weights nodes places ≡ weights nodes left + (term_size (term_at nodes at) + 0) = ap (weights nodes) e ∙ weights-append nodes left (at ∷ []) in
-    let then : weights nodes after ≡ weights nodes left + weights nodes (parts n) = ap (weights nodes) put ∙ weights-append nodes left (parts n) in
+    let later : weights nodes after ≡ weights nodes left + weights nodes (parts n) = ap (weights nodes) put ∙ weights-append nodes left (parts n) in
     let size : term_size (term_at nodes at) ≡ term_size (tree_of nodes n) = ap term_size (place t at n is).tree in
-    omega (arith, before, then, size, parts-less nodes n)
+    omega (arith, before, later, size, parts-less nodes n)
