@@ -19,6 +19,8 @@ mod signature;
 mod term;
 mod term_builder;
 mod term_instances;
+#[cfg(test)]
+mod tests;
 mod type_fault;
 mod up_to_types;
 

@@ -1,4 +1,4 @@
-use Rattle.std.proofs.Common.{◌≡◌, ◌∙◌, [], ap, sym, subst, length, arith}
+use Rattle.std.proofs.Common.{◌≡◌, ◌∙◌, [], List, ap, sym, subst, length, arith}
 use Rattle.std.proofs.lemmas.Grind.{common_steps}
 use Rattle.lt_definitions.specs.Terms.{TermTree}
 use Rattle.lt_hol.specs.declared.term.TermNode.{TermNode}
@@ -24,7 +24,7 @@ loop-task-preserved-in_ok-push_children-in-Visit c =
 
 pub node-requires : goal.node-requires
 node-requires c =
-    subst (HasRoom c.loop-task.builder) (sym c.in_ok-copy-in-Make.ensures)
+    subst (λ (q : List TermTree × TermNode). HasRoom q.0 q.1) (λ i. (sym c.builder-in-Make.view_is i, sym c.in_ok-copy-in-Make.ensures i))
     (make-step c.args.nodes.now (tree_at c.args.nodes.now c.args.place) c.loop-task.tasks.items c.pop.new.self.items c.in-Some.task c.in-Make.at c.index-nodes-at-in-Make.result c.loop-task.builder c.index-nodes-at-in-Make.is c.in-Some.ensures.items c.in-Make.is c.loop-task.invariant).0
 
 pub loop-task-smaller : goal.loop-task-smaller
@@ -32,7 +32,7 @@ loop-task-smaller c = make-smaller c.args.nodes.now c.loop-task.tasks.items c.po
 
 pub loop-task-preserved : goal.loop-task-preserved
 loop-task-preserved c =
-    subst (MakesLast c.args.nodes.now (tree_at c.args.nodes.now c.args.place) c.pop.new.self.items) (sym (c.in_ok-builder-in-Make.ensures ∙ ap (grow c.loop-task.builder) c.in_ok-copy-in-Make.ensures))
+    subst (MakesLast c.args.nodes.now (tree_at c.args.nodes.now c.args.place) c.pop.new.self.items) (sym (c.in_ok-builder-in-Make.ensures ∙ (λ i. grow (c.builder-in-Make.view_is i) (c.in_ok-copy-in-Make.ensures i))))
     (make-step c.args.nodes.now (tree_at c.args.nodes.now c.args.place) c.loop-task.tasks.items c.pop.new.self.items c.in-Some.task c.in-Make.at c.index-nodes-at-in-Make.result c.loop-task.builder c.index-nodes-at-in-Make.is c.in-Some.ensures.items c.in-Make.is c.loop-task.invariant).1
 
 pub finish-requires : goal.finish-requires
