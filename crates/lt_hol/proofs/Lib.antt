@@ -14,3 +14,5 @@ pub mod NodeInstances
 pub mod TermPlaces
 pub mod NumberedNames
 pub mod DigitNames
+pub mod OpenBinders
+pub mod BinderPasses

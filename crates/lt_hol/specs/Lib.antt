@@ -12,3 +12,4 @@ pub mod Openings
 pub mod Tasks
 pub mod TypeInstances
 pub mod Numberings
+pub mod Scopes
