@@ -10,3 +10,9 @@ pub mod Scopes
 pub mod TypeTables
 pub mod Instances
 pub mod Makings
+pub mod NodeNames
+pub mod AlikeNodes
+pub mod Openings
+pub mod Tasks
+pub mod TypeInstances
+pub mod Numberings
