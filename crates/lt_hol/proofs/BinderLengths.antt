@@ -1,11 +1,11 @@
 -- The greatest length of a bound name, over the nodes of a term.
-use Rattle.std.proofs.Common.{◌≡◌, ℕ, suc, ◌+◌, ◌<◌, List, [], ◌∷◌, ◌++◌, length, drop, get_or, max, refl, sym, ◌∙◌, ap, arith, add-one, replicate, append_assoc}
+use Rattle.std.proofs.Common.{◌≡◌, ℕ, suc, ◌+◌, ◌<◌, List, [], ◌∷◌, ◌++◌, length, drop, get_or, max, sym, ◌∙◌, ap, arith, add-one}
 use Rattle.std.proofs.Math.Nat.{max_comm}
 use Rattle.std.proofs.Math.Seq.{drop-cons}
 use Rattle.lt_definitions.specs.Terms.{TermTree, free_variable, bound_name, constant, application, abstraction}
 use Rattle.lt_definitions.specs.Binding.{longest}
 use Rattle.lt_hol.specs.declared.term.TermNode.{TermNode}
-use Rattle.lt_hol.specs.declared.term.TermNode.TheVariants.{Free, Bound, Const, App, Lam}
+use Rattle.lt_hol.specs.declared.term.TermNode.TheVariants.{App, Lam}
 use Rattle.lt_hol.specs.Layout.{under, term_nodes}
 use Rattle.lt_hol.specs.NodeNames.{name_length}
 

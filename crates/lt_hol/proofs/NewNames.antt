@@ -8,12 +8,12 @@ use Rattle.lt_definitions.specs.Terms.{TermTree, free_variable, bound_name, cons
 use Rattle.lt_definitions.specs.Binding.{opened, replaced, Closes, longest, new_binder, closed_over}
 use Rattle.lt_definitions.specs.Nameless.{nameless, nameless_abstraction}
 use Rattle.lt_definitions.specs.NamelessRules.{abstracted}
-use Rattle.lt_definitions.proofs.Tests.{true-false, bool_cases, both-true, true-both, name-true, true-name, false-name, type-true}
+use Rattle.lt_definitions.proofs.Tests.{true-false, bool_cases, both-true, name-true, true-name, false-name, type-true}
 use Rattle.lt_definitions.proofs.Alphas.{alpha-nameless, nameless-alpha}
 use Rattle.lt_definitions.proofs.Bridges.{if-true, if-false, closed-nameless, new_is_longer}
 use Rattle.lt_definitions.proofs.Closings.{closings_are_alpha}
 use Rattle.lt_hol.specs.declared.term.TermNode.{TermNode}
-use Rattle.lt_hol.specs.declared.term.TermNode.TheVariants.{Free, Bound, Const, App, Lam}
+use Rattle.lt_hol.specs.declared.term.TermNode.TheVariants.{App, Lam}
 use Rattle.lt_hol.specs.Layout.{under, term_nodes}
 use Rattle.lt_hol.specs.NodeNames.{has_bound, is_bound_at}
 

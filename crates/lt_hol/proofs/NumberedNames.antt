@@ -1,7 +1,6 @@
 -- Numbering type variables in order of first appearance.
-use Rattle.std.proofs.Common.{◌≡◌, inl, inr, ℕ, zero, suc, ◌+◌, ◌<◌, ◌≤◌, List, [], ◌∷◌, ◌++◌, Bool, true, false, ◌&&◌, ◌||◌, if◌then◌else◌, length, reverse, drop, get_or, slice_get, is_some, Option, Some, None, codes, refl, sym, ◌∙◌, ap, subst, arith, add-one, append_assoc, append-nil, length-append}
+use Rattle.std.proofs.Common.{◌≡◌, inl, inr, ℕ, suc, ◌+◌, ◌<◌, ◌≤◌, List, [], ◌∷◌, ◌++◌, Bool, true, false, ◌||◌, length, reverse, drop, get_or, slice_get, is_some, Some, codes, refl, sym, ◌∙◌, ap, subst, arith, add-one, append_assoc, append-nil}
 use Rattle.std.specs.Fmt.{decimal}
-use Rattle.std.specs.List.{list_any}
 use Rattle.std.proofs.Math.Seq.{drop-cons}
 use Rattle.std.proofs.Math.ListN.{drop_of_length-le}
 use Rattle.std.proofs.lemmas.List.{reverse-append}
@@ -13,7 +12,7 @@ use Rattle.lt_definitions.proofs.Bridges.{if-true, if-false}
 use Rattle.lt_types.specs.Maps.{with_pair}
 use Rattle.lt_types.specs.Layout as types
 use Rattle.lt_types.specs.declared.ty.TyNode.{TyNode}
-use Rattle.lt_types.specs.declared.ty.TyNode.TheVariants.{Var, Con}
+use Rattle.lt_types.specs.declared.ty.TyNode.TheVariants.{Con}
 use Rattle.lt_hol.specs.declared.term.TermNode.{TermNode}
 use Rattle.lt_hol.specs.declared.term.TermNode.TheVariants.{Free, Bound, Const, App, Lam}
 use Rattle.lt_hol.specs.Layout.{under, term_size, term_nodes}

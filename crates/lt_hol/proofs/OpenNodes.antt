@@ -1,5 +1,5 @@
 -- Opening over the nodes of a term.
-use Rattle.std.proofs.Common.{◌≡◌, inl, inr, ℕ, suc, ◌+◌, ◌-◌, ◌<◌, ◌≤◌, List, [], ◌∷◌, ◌++◌, Bool, true, false, ◌&&◌, ◌||◌, not, if◌then◌else◌, length, map, drop, get_or, slice_get, nat_eq, Option, Some, None, refl, sym, ◌∙◌, ap, subst, arith, add-one, append_assoc, append-nil, length-append}
+use Rattle.std.proofs.Common.{◌≡◌, inl, inr, ℕ, suc, ◌+◌, ◌-◌, ◌<◌, ◌≤◌, List, [], ◌∷◌, ◌++◌, Bool, true, false, ◌&&◌, ◌||◌, not, if◌then◌else◌, length, drop, get_or, slice_get, nat_eq, Option, Some, None, refl, sym, ◌∙◌, ap, subst, arith, add-one, append_assoc, length-append}
 use Rattle.std.proofs.Math.Seq.{drop-cons}
 use Rattle.std.proofs.lemmas.Bool.Decides.{nat_tests}
 use Rattle.lt_definitions.specs.Types.{Chars, same_name, has_name, TypeTree}
@@ -10,7 +10,7 @@ use Rattle.lt_definitions.proofs.Bridges.{if-true, if-false}
 use Rattle.lt_hol.specs.declared.term.TermNode.{TermNode}
 use Rattle.lt_hol.specs.declared.term.TermNode.TheVariants.{Free, Bound, Const, App, Lam}
 use Rattle.lt_hol.specs.declared.bound_names.Binder.{Binder}
-use Rattle.lt_hol.specs.Layout.{under, term_size, term_nodes, abstracted, grow, HasRoom}
+use Rattle.lt_hol.specs.Layout.{under, term_size, term_nodes, HasRoom}
 use Rattle.lt_hol.specs.BoundNames.{Places, further, binder_of, binders_in}
 use Rattle.lt_hol.specs.Openings.{opening, is_abstraction, is_lambda, is_at, grow_open}
 use Rattle.lt_hol.proofs.Nodes.{length-term_nodes}

@@ -1,15 +1,15 @@
 -- What stands at the places of shared nodes, and how it is made by tasks.
-use Rattle.std.proofs.Common.{◌≡◌, ℕ, zero, suc, ◌+◌, ◌*◌, ◌<◌, ◌≤◌, List, [], ◌∷◌, ◌++◌, Bool, true, ◌&&◌, length, reverse, get_or, nat_lt, refl, sym, ◌∙◌, ap, subst, arith, length-append, append_assoc}
+use Rattle.std.proofs.Common.{◌≡◌, ℕ, zero, suc, ◌+◌, ◌*◌, ◌<◌, ◌≤◌, List, [], ◌∷◌, ◌++◌, true, length, reverse, get_or, nat_lt, refl, sym, ◌∙◌, ap, subst, arith, length-append}
 use Rattle.std.proofs.Math.ListN.{get_or-append}
 use Rattle.std.proofs.lemmas.List.{reverse-append, get_or_default}
 use Rattle.std.proofs.lemmas.Bool.{ltb-true}
 use Rattle.lt_definitions.proofs.Tests.{both-true}
-use Rattle.lt_definitions.specs.Terms.{TermTree, free_variable, bound_name, constant, application, abstraction}
+use Rattle.lt_definitions.specs.Terms.{TermTree, bound_name, application, abstraction}
 use Rattle.lt_hol.specs.declared.term.TermNode.{TermNode}
 use Rattle.lt_hol.specs.declared.term.TermNode.TheVariants.{Free, Bound, Const, App, Lam}
 use Rattle.lt_hol.specs.declared.shared_nodes.Task.{Task}
 use Rattle.lt_hol.specs.declared.shared_nodes.Task.TheVariants.{Visit, Make}
-use Rattle.lt_hol.specs.Layout.{under, term_size, grow, HasRoom}
+use Rattle.lt_hol.specs.Layout.{term_size, grow, HasRoom}
 use Rattle.lt_hol.specs.Lines.{has_children_below, are_in_order, tree_of, trees_behind, trees}
 use Rattle.lt_hol.specs.Tasks.{visits}
 

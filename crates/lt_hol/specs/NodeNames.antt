@@ -3,7 +3,7 @@ use Rattle.std.specs.Prelude.{ℕ, Bool, false, ◌||◌, length}
 use Rattle.lt_definitions.specs.Types.{Chars, same_name}
 use Rattle.lt_definitions.specs.Terms.{TermTree, free_variable, bound_name, constant, application, abstraction}
 use Rattle.lt_hol.specs.declared.term.TermNode.{TermNode}
-use Rattle.lt_hol.specs.declared.term.TermNode.TheVariants.{Free, Bound, Const, App, Lam}
+use Rattle.lt_hol.specs.declared.term.TermNode.TheVariants.{Bound, Lam}
 
 -- whether the name is that of a binder or a bound name
 abbrev pub has_bound : Chars → TermTree → Bool

@@ -1,9 +1,9 @@
 -- The opening of an abstraction.
 use Rattle.std.specs.Prelude.{ℕ, List, ◌∷◌, Bool, true, false, nat_eq, if◌then◌else◌, Option, Some, None}
-use Rattle.lt_definitions.specs.Terms.{TermTree, free_variable, bound_name, constant, application, abstraction}
+use Rattle.lt_definitions.specs.Terms.{TermTree, abstraction}
 use Rattle.lt_definitions.specs.Binding.{opened}
 use Rattle.lt_hol.specs.declared.term.TermNode.{TermNode}
-use Rattle.lt_hol.specs.declared.term.TermNode.TheVariants.{Free, Bound, Const, App, Lam}
+use Rattle.lt_hol.specs.declared.term.TermNode.TheVariants.{Lam}
 use Rattle.lt_hol.specs.declared.bound_names.Binder.{Binder}
 use Rattle.lt_hol.specs.Layout.{grow}
 

@@ -1,4 +1,4 @@
-use Rattle.std.proofs.Common.{◌≡◌, ◌∙◌, ap, sym, refl, false, Bool, ◌&&◌, drop, ◌+◌}
+use Rattle.std.proofs.Common.{◌∙◌, ap, sym, refl, Bool, ◌&&◌, drop, ◌+◌}
 use Rattle.lt_hol.specs.AlikeNodes.{agree}
 use Rattle.lt_hol.proofs.Signs.{agree-more, agree-end}
 use Rattle.lt_hol.proofs.alpha.agree.Goals as goal

@@ -1,4 +1,3 @@
-use Rattle.std.proofs.Common.{◌∙◌, ap, sym, max}
 use Rattle.lt_hol.proofs.BinderLengths.{greatest-first}
 use Rattle.lt_hol.proofs.closing.longest.Goals as goal
 

@@ -1,4 +1,4 @@
-use Rattle.std.proofs.Common.{◌≡◌, ◌∙◌, ap, string_bytes}
+use Rattle.std.proofs.Common.{◌∙◌, ap, string_bytes}
 use Rattle.std.specs.Str.{chars}
 use Rattle.lt_types.specs.Lexical.{is_name}
 use Rattle.lt_hol.proofs.LongNames.{long-first, long-next, long-name, long-binder}

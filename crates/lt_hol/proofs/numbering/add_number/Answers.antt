@@ -1,4 +1,4 @@
-use Rattle.std.proofs.Common.{◌≡◌, ◌∙◌, ap, is_some}
+use Rattle.std.proofs.Common.{ap, is_some}
 use Rattle.lt_hol.proofs.NumberedNames.{underway-new}
 use Rattle.lt_hol.proofs.numbering.add_number.Goals as goal
 

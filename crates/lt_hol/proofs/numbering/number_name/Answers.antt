@@ -1,4 +1,4 @@
-use Rattle.std.proofs.Common.{◌≡◌, ◌∙◌, ap, sym, is_some}
+use Rattle.std.proofs.Common.{◌∙◌, ap, sym, is_some}
 use Rattle.lt_hol.proofs.Lookups.{copied-some, none-found}
 use Rattle.lt_hol.proofs.NumberedNames.{underway-old}
 use Rattle.lt_hol.proofs.numbering.number_name.Goals as goal

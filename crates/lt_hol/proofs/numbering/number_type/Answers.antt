@@ -1,4 +1,4 @@
-use Rattle.std.proofs.Common.{◌≡◌, ◌∙◌, ◌+◌, ◌++◌, drop}
+use Rattle.std.proofs.Common.{◌+◌, ◌++◌, drop}
 use Rattle.lt_hol.proofs.NumberedNames.{all_names, moved, type-first, type-next, type-last}
 use Rattle.lt_hol.proofs.numbering.number_type.Goals as goal
 

@@ -1,4 +1,4 @@
-use Rattle.std.proofs.Common.{◌≡◌, ◌∙◌, ◌+◌, ◌++◌, drop}
+use Rattle.std.proofs.Common.{◌+◌, ◌++◌, drop}
 use Rattle.lt_definitions.specs.Types.{row, types_names}
 use Rattle.lt_hol.proofs.NumberedNames.{moved, types-first, types-next, types-last}
 use Rattle.lt_hol.proofs.numbering.number_types.Goals as goal

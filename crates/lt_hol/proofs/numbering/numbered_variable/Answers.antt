@@ -1,8 +1,5 @@
-use Rattle.std.proofs.Common.{◌≡◌, ◌∙◌, ◌∷◌, ap, string_bytes}
-use Rattle.std.specs.Fmt.{decimal}
-use Rattle.std.specs.Str.{chars}
+use Rattle.std.proofs.Common.{◌∙◌, ap}
 use Rattle.lt_definitions.specs.Types.{type_variable}
-use Rattle.lt_types.specs.Lexical.{is_name}
 use Rattle.lt_hol.proofs.DigitNames.{number-chars, number-name}
 use Rattle.lt_hol.proofs.numbering.numbered_variable.Goals as goal
 

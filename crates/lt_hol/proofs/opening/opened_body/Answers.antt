@@ -1,4 +1,4 @@
-use Rattle.std.proofs.Common.{◌≡◌, ◌∙◌, ◌∷◌, ◌+◌, ◌-◌, [], ap, sym, subst, refl, arith, length, drop, Some, List}
+use Rattle.std.proofs.Common.{◌∙◌, ◌∷◌, ◌+◌, ◌-◌, [], ap, sym, subst, refl, arith, length, drop, Some, List}
 use Rattle.lt_definitions.specs.Terms.{TermTree}
 use Rattle.lt_hol.proofs.Signs.{as-many}
 use Rattle.lt_hol.proofs.OpenNodes.{Reaches, around_opened, opens-whole, reaches-next, opens-end, opened-one}

@@ -4,7 +4,7 @@ use Rattle.lt_definitions.specs.Terms.{TermTree}
 use Rattle.lt_hol.specs.declared.term.TermNode.{TermNode}
 use Rattle.lt_hol.specs.Layout.{HasRoom, grow}
 use Rattle.lt_hol.proofs.OpenNodes.{opened-one}
-use Rattle.lt_hol.proofs.SharedTrees.{tree_at, MakesLast, makes-first, makes-last, visit-within, make-within, visit-step, make-step, visit-smaller, make-smaller}
+use Rattle.lt_hol.proofs.SharedTrees.{tree_at, MakesLast, makes-first, makes-last, visit-within, visit-step, make-step, visit-smaller, make-smaller}
 use Rattle.lt_hol.proofs.shared_nodes.term_at.Goals as goal
 
 pub loop-task-init : goal.loop-task-init

@@ -1,4 +1,4 @@
-use Rattle.std.proofs.Common.{◌≡◌, ◌∙◌, ◌++◌, ◌∷◌, [], ap, sym}
+use Rattle.std.proofs.Common.{◌∙◌, ◌++◌, ◌∷◌, []}
 use Rattle.lt_hol.proofs.NodeInstances.{map-next, map-whole}
 use Rattle.lt_hol.proofs.term_instances.type_instances.Goals as goal
 
