@@ -1,0 +1,19 @@
+-- The parts of terms that have a shape.
+use Rattle.std.specs.Prelude.{List, [], ◌∷◌, Option, Some, None, Bool, false, if◌then◌else◌, codes}
+use Rattle.lt_definitions.specs.Types.{Chars, TypeTree, same_name}
+use Rattle.lt_definitions.specs.Nameless.{Nameless, nameless_constant}
+
+-- the only one of some types
+abbrev pub only_type : List TypeTree → Option TypeTree
+only_type (ty ∷ []) = Some ty
+only_type _ = None
+
+-- the type argument of a constant of that name with one type argument
+abbrev pub type_argument : Chars → Nameless → Option TypeTree
+type_argument w (nameless_constant c ts) = if same_name c w then only_type ts else None
+type_argument w _ = None
+
+-- whether a term is the constant of implication
+abbrev pub is_imp : Nameless → Bool
+is_imp (nameless_constant c []) = same_name c (codes "imp")
+is_imp _ = false

@@ -1,0 +1,59 @@
+//! The types of terms without a fault.
+ghost use Rattle.std.specs.Prelude.{◌≡◌, ◌<◌, length, None, IfOk};
+ghost use Rattle.lt_definitions.specs.Types.{bool};
+ghost use Rattle.lt_definitions.specs.NamelessRules.{nameless_fault, nameless_has_type, nameless_type_of};
+ghost use Rattle.lt_store.specs.Trees.{tree_at};
+
+use lt_hol::{Memory, Signature, Ty};
+use lt_store::{Id, TermStore, type_at};
+use std::alloc::Global;
+
+/// Whether a term without a fault has the type.
+pub fn has_type<S: TermStore>(
+    alloc: Global,
+    store: &S,
+    sig: &Signature,
+    t: Id,
+    ty: &Ty,
+) -> Result<bool, Memory>
+    requires t { t < length (S.nodes store.now) }
+    requires typed { nameless_fault sig.now (tree_at (S.nodes store.now) t) ≡ None }
+    ensures { IfOk result (λ holds. holds ≡ nameless_has_type sig.now (tree_at (S.nodes store.now) t) ty.now) }
+{
+    match type_at(alloc, store, sig, t) {
+        Ok(found) => Ok(*ty == found),
+        Err(_) => Err(Memory),
+    }
+}
+
+/// Whether a term without a fault is boolean.
+pub fn is_boolean<S: TermStore>(
+    alloc: Global,
+    store: &S,
+    sig: &Signature,
+    p: Id,
+) -> Result<bool, Memory>
+    requires p { p < length (S.nodes store.now) }
+    requires typed { nameless_fault sig.now (tree_at (S.nodes store.now) p) ≡ None }
+    ensures { IfOk result (λ holds. holds ≡ nameless_has_type sig.now (tree_at (S.nodes store.now) p) bool) }
+{
+    let bool = Ty::bool(alloc)?;
+    Ok(has_type(alloc, store, sig, p, &bool)?)
+}
+
+/// The type of a term without a fault.
+pub fn type_of<S: TermStore>(
+    alloc: Global,
+    store: &S,
+    sig: &Signature,
+    t: Id,
+) -> Result<Ty, Memory>
+    requires t { t < length (S.nodes store.now) }
+    requires typed { nameless_fault sig.now (tree_at (S.nodes store.now) t) ≡ None }
+    ensures { IfOk result (λ ty. ty ≡ nameless_type_of sig.now (tree_at (S.nodes store.now) t)) }
+{
+    match type_at(alloc, store, sig, t) {
+        Ok(ty) => Ok(ty),
+        Err(_) => Err(Memory),
+    }
+}
