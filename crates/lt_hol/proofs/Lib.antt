@@ -21,3 +21,4 @@ pub mod NodeInstances
 pub mod TermPlaces
 pub mod NumberedNames
 pub mod DigitNames
+pub mod TypingSteps

@@ -16,3 +16,4 @@ pub mod Openings
 pub mod Tasks
 pub mod TypeInstances
 pub mod Numberings
+pub mod Outcomes

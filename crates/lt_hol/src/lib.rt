@@ -2,6 +2,7 @@
 #![tactic(auto)]
 
 mod alpha;
+mod binder_types;
 mod bound_names;
 mod check_type;
 mod closing;
@@ -12,6 +13,7 @@ mod line;
 mod lines;
 mod numbering;
 mod opening;
+mod outcome;
 mod pending;
 mod property;
 mod read_type;
@@ -28,6 +30,7 @@ mod tests;
 mod type_fault;
 mod type_table;
 mod type_variables;
+mod typing;
 mod up_to_types;
 
 pub use alpha::alpha_eq;
