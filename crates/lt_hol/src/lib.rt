@@ -45,6 +45,7 @@ pub use lt_types::{
     match_type, tsub,
 };
 pub use opening::open_binder;
+pub use outcome::Outcome;
 pub use property::Property;
 pub use reason::Reason;
 pub use replacing::subst_free;
@@ -55,6 +56,7 @@ pub use term_instances::term_instance;
 pub use type_fault::TypeFault;
 pub use type_table::TypeTable;
 pub use up_to_types::same_up_to_types;
+pub use typing::applied_types;
 
 /// A list of terms.
 pub type Terms = List<Term>;
