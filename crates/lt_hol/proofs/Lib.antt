@@ -4,3 +4,8 @@ pub mod Lookups
 pub mod TypeFaults
 pub mod Places
 pub mod Replacements
+pub mod OpenBinders
+pub mod BinderPasses
+pub mod NodeEquality
+pub mod DistinctTypes
+pub mod TypeNumbers

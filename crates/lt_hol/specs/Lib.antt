@@ -5,3 +5,6 @@ pub mod TypeNodes
 pub mod Lines
 pub mod Items
 pub mod FreeNodes
+pub mod BoundNames
+pub mod Scopes
+pub mod TypeTables

@@ -1,19 +1,24 @@
 //! Names, types, terms and signatures of higher-order logic.
 #![tactic(auto)]
 
+mod bound_names;
 mod check_type;
 mod form_part;
 mod item;
 mod line;
 mod lines;
+mod pending;
 mod property;
 mod reason;
 mod replacing;
+mod scope;
 mod signature;
 mod term;
 mod term_builder;
 mod type_fault;
+mod type_table;
 
+pub use bound_names::{Binder, binders};
 pub use form_part::{PropertyPart, QuotientPart, RelatorPart, RulePart};
 pub use item::Item;
 pub use line::Line;
@@ -29,6 +34,7 @@ pub use signature::{SigMark, Signature};
 pub use term::{Term, TermNode};
 pub use term_builder::TermBuilder;
 pub use type_fault::TypeFault;
+pub use type_table::TypeTable;
 
 /// A list of terms.
 pub type Terms = List<Term>;

@@ -6,3 +6,4 @@ pub mod FunctionParts
 pub mod OtherOutcomes
 pub mod Outcomes
 pub mod NamedIds
+pub mod States

@@ -1,21 +1,22 @@
 //! What a theory has declared and stated, and the lines of a derivation, over a store of terms.
-ghost use Rattle.std.specs.Prelude.{◌≡◌, ◌<◌, [], length, take, None};
+ghost use Rattle.std.specs.Prelude.{◌≡◌, ◌<◌, [], ◌∷◌, ◌++◌, length, take, is_some, None, IfOk, IfSome, OnOk, OnErr};
 ghost use Rattle.std.specs.Option.{option_copied, option_map};
-ghost use Rattle.lt_definitions.specs.Types.{bool};
+ghost use Rattle.lt_definitions.specs.Types.{found};
 ghost use Rattle.lt_definitions.specs.Rules.{line_at};
-ghost use Rattle.lt_definitions.specs.NamelessRules.{nameless_fault, nameless_assume_gives, nameless_impI_gives, nameless_mp_gives, nameless_thm_gives};
+ghost use Rattle.lt_definitions.specs.Nameless.{nameless, IsWhole};
 ghost use Rattle.lt_hol.specs.Faults.{DeclaresType, DeclaresConst, cut};
-ghost use Rattle.lt_hol.specs.declared.line.Line.TheVariants as line;
 ghost use Rattle.lt_store.specs.Trees.{tree_at};
 ghost use Rattle.lt_kernel2.specs.Lines.{IsGoodLine};
-ghost use Rattle.lt_kernel2.specs.State.{sequents, statements, step_of, Answers, Names};
+ghost use Rattle.lt_kernel2.specs.Sequents.{IsWithin};
+ghost use Rattle.lt_kernel2.specs.State.{step_of, Answers, Keeps, Names};
 
+use crate::derive::derive;
 use crate::rule_fault::RuleFault;
 use crate::sequent::{Sequent, Step};
 use crate::steps::step_at;
 use indexmap::IndexMap;
-use lt_hol::{Line, Name, SigMark, Signature, Ty, TypeFault};
-use lt_store::{Id, TermStore};
+use lt_hol::{Line, Memory, Name, SigMark, Signature, Term, TryCopy, Ty, TypeFault};
+use lt_store::{Id, TermStore, to_store};
 use std::alloc::Global;
 use std::marker::Model;
 
@@ -23,7 +24,7 @@ use std::marker::Model;
 #[derive(Drop)]
 pub struct Proof<S: TermStore> {
     signature: Signature,
-    store: S,
+    pub(crate) store: S,
     named: IndexMap<Name, Id>,
     steps: Vec<Step>,
 }
@@ -79,7 +80,11 @@ impl<S: TermStore + Drop> Proof<S> {
         requires { statement < length self.old.nodes }
         ensures { Names self.old self.new label statement result }
     {
-        Err(RuleFault::Memory)
+        if is_named(&self.named, &label) {
+            return Err(RuleFault::Duplicate(label));
+        }
+        self.named.insert(label, statement)?;
+        Ok(())
     }
 
     /// Adds the line with the sequent that its rule gives, and answers its number, from 1.
@@ -89,12 +94,25 @@ impl<S: TermStore + Drop> Proof<S> {
         requires { IsGoodLine self.old.signature self.old.nodes line.now }
         ensures { Answers self.old self.new line.now result (step_of self.old line.now) }
     {
-        Err(RuleFault::Memory)
+        let sequent = match derive(
+            alloc,
+            &mut self.store,
+            &self.signature,
+            &self.named,
+            self.steps.as_slice(),
+            line,
+        ) {
+            Ok(sequent) => sequent,
+            Err(fault) => return Err(fault),
+        };
+        let number = add_step(alloc, &mut self.steps, line, sequent)?;
+        Ok(number)
     }
 
     /// The sequent of the line with a number; None where there is no such line.
     pub fn sequent(&self, number: usize) -> Option<&Sequent>
-        ensures { option_copied result ≡ option_map (λ s. s.sequent) (line_at self.now.steps number) }
+        ensures is { option_copied result ≡ option_map (λ s. s.sequent) (line_at self.now.steps number) }
+        ensures within { IfSome result (λ s. IsWithin (length self.now.nodes) s.now) }
     {
         match step_at(self.steps.as_slice(), number) {
             Some(step) => Some(&step.sequent),
@@ -110,6 +128,24 @@ impl<S: TermStore + Drop> Proof<S> {
             Some(step) => Some(&step.line),
             None => None,
         }
+    }
+
+    /// The store of the terms.
+    pub fn store(&self) -> &S
+        ensures { S.nodes result.now ≡ self.now.nodes }
+    {
+        &self.store
+    }
+
+    /// Puts a term into the store. What is declared, the named statements and the lines stay.
+    pub fn add_term(&mut self, alloc: Global, t: &Term) -> Result<Id, Memory>
+        requires { IsWhole 0 (nameless [] t.now) }
+        ensures kept { Keeps self.old self.new }
+        ensures made { IfOk result (λ r. r < length self.new.nodes) }
+        ensures is { IfOk result (λ r. tree_at self.new.nodes r ≡ nameless [] t.now) }
+    {
+        let id = to_store(alloc, &mut self.store, t)?;
+        Ok(id)
     }
 
     /// What is declared.
@@ -162,36 +198,27 @@ impl<S: TermStore + Drop> Proof<S> {
         self.named.truncate(mark.statements);
         self.steps.clear();
     }
+}
 
-    /// From nothing: `p |- p`. `NotBool`.
-    pub fn assume(&mut self, alloc: Global, p: Id) -> Result<usize, RuleFault>
-        requires p { p < length self.old.nodes }
-        requires typed { nameless_fault self.old.signature (tree_at self.old.nodes p) ≡ None }
-        ensures { Answers self.old self.new (line.Assume p) result (nameless_assume_gives self.old.signature (tree_at self.old.nodes p)) }
-    {
-        self.apply(alloc, &Line::Assume(p))
-    }
+/// Whether a statement has the label.
+fn is_named(named: &IndexMap<Name, Id>, label: &Name) -> bool
+    ensures { result ≡ is_some (found label.now named.now.entries) }
+{
+    named.get(label).is_some()
+}
 
-    /// From `H |- q`: `H` without `p |- p --> q`. `MissingLine`, `NotBool`.
-    pub fn impI(&mut self, alloc: Global, p: Id, i: usize) -> Result<usize, RuleFault>
-        requires p { p < length self.old.nodes }
-        requires typed { nameless_fault self.old.signature (tree_at self.old.nodes p) ≡ None }
-        ensures { Answers self.old self.new (line.ImpI p i) result (nameless_impI_gives self.old.signature (sequents self.old) (tree_at self.old.nodes p) i) }
-    {
-        self.apply(alloc, &Line::ImpI(p, i))
-    }
-
-    /// From `H |- p --> q` and `K |- p`: `H, K |- q`. `MissingLine`, `NotImplication`, `MiddleDiffers`.
-    pub fn mp(&mut self, alloc: Global, i: usize, j: usize) -> Result<usize, RuleFault>
-        ensures { Answers self.old self.new (line.Mp i j) result (nameless_mp_gives (sequents self.old) i j) }
-    {
-        self.apply(alloc, &Line::Mp(i, j))
-    }
-
-    /// `|-` the statement of the label. `UnknownLabel`.
-    pub fn thm(&mut self, alloc: Global, label: Name) -> Result<usize, RuleFault>
-        ensures { Answers self.old self.new (line.Thm label) result (nameless_thm_gives (statements self.old) label) }
-    {
-        self.apply(alloc, &Line::Thm(label))
-    }
+/// Adds a line with its sequent, and answers its number.
+fn add_step(
+    alloc: Global,
+    steps: &mut Vec<Step>,
+    line: &Line,
+    sequent: Sequent,
+) -> Result<usize, Memory>
+    ensures ok { OnOk result (steps.new.items ≡ steps.old.items ++ record { line = line.now; sequent = sequent } ∷ []) }
+    ensures number { IfOk result (λ n. n ≡ length steps.new.items) }
+    ensures err { OnErr result (steps.new.items ≡ steps.old.items) }
+{
+    let line = line.copy(alloc)?;
+    steps.push(Step { line, sequent })?;
+    Ok(steps.len())
 }

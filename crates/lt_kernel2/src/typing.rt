@@ -1,28 +1,12 @@
-//! The type of a term in a store.
-ghost use Rattle.std.specs.Prelude.{◌≡◌, ◌<◌, [], length, None, IfOk};
+//! The types of terms without a fault.
+ghost use Rattle.std.specs.Prelude.{◌≡◌, ◌<◌, length, None, IfOk};
 ghost use Rattle.lt_definitions.specs.Types.{bool};
-ghost use Rattle.lt_definitions.specs.Nameless.{IsWhole};
-ghost use Rattle.lt_definitions.specs.NamelessRules.{nameless_typed, nameless_fault, nameless_has_type, nameless_type_of};
-ghost use Rattle.lt_hol.specs.Faults.{Gives};
+ghost use Rattle.lt_definitions.specs.NamelessRules.{nameless_fault, nameless_has_type, nameless_type_of};
 ghost use Rattle.lt_store.specs.Trees.{tree_at};
 
-use lt_hol::{Memory, Signature, Ty, TypeFault};
-use lt_store::{Id, TermStore};
+use lt_hol::{Memory, Signature, Ty};
+use lt_store::{Id, TermStore, type_at};
 use std::alloc::Global;
-
-/// The type of a term in a store.
-pub fn type_at<S: TermStore>(
-    _alloc: Global,
-    _store: &S,
-    _sig: &Signature,
-    _t: Id,
-) -> Result<Ty, TypeFault>
-    requires t { _t < length (S.nodes _store.now) }
-    requires whole { IsWhole 0 (tree_at (S.nodes _store.now) _t) }
-    ensures { Gives (nameless_typed _sig.now [] (tree_at (S.nodes _store.now) _t)) result }
-{
-    Err(TypeFault::Memory)
-}
 
 /// Whether a term without a fault has the type.
 pub fn has_type<S: TermStore>(

@@ -5,3 +5,6 @@ pub mod Comparisons
 pub mod Images
 pub mod Tasks
 pub mod Lists
+pub mod StoredTerms
+pub mod TypeNumbers
+pub mod TypeTasks

@@ -4,3 +4,6 @@ pub mod Memos
 pub mod Parts
 pub mod Passes
 pub mod Tasks
+pub mod Stacks
+pub mod TypeNumbers
+pub mod TypeTasks

@@ -3,20 +3,29 @@
 
 mod change;
 mod image;
+mod last;
 mod memo;
+mod naming;
 mod node;
 mod pass;
 mod passes;
 mod plain_store;
 mod same;
+mod storing;
 mod term_store;
+mod type_numbers;
+mod type_work;
+mod typing;
 
+pub use naming::from_store;
 pub use node::{Id, Node, View};
 pub use passes::{
     abstract_free, has_free, has_loose, instantiate, replace_free, type_instance, type_instances,
 };
 pub use plain_store::PlainStore;
+pub use storing::to_store;
 pub use term_store::TermStore;
+pub use typing::type_at;
 
 #[cfg(test)]
 mod tests;

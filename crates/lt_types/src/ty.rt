@@ -14,7 +14,7 @@ use std::marker::Model;
 use std::rc::Rc;
 
 /// A node of a type: a variable, or a constructor with the places of its arguments.
-#[derive(Debug, Drop)]
+#[derive(Debug, Drop, PartialEq, Eq, Hash)]
 pub enum TyNode {
     Var(Name),
     Con(Name, List<usize>),

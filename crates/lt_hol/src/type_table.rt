@@ -1,0 +1,164 @@
+//! Types by number.
+ghost use Rattle.std.specs.Prelude.{◌≡◌, ◌<◌, ◌↔◌, [], ◌∷◌, ◌++◌, length, true, slice_get, Some, IsTrue, IfOk, IfSome};
+ghost use Rattle.std.specs.Option.{option_map};
+ghost use Rattle.lt_definitions.specs.Types.{fun};
+ghost use Rattle.lt_types.specs.Layout.{HasRoom, grow};
+ghost use Rattle.lt_hol.specs.TypeTables.{type_at, types_at, made_of, all_below, is_below, Extends, function_parts, node_parts, both};
+
+use indexmap::IndexSet;
+use lt_types::{List, Memory, Name, TryCopy, Ty, TyNode};
+use std::alloc::Global;
+use std::marker::Model;
+
+/// Distinct types, which contracts see as a list. A type's number is its place in the list.
+///
+/// Two types of one table are equal exactly where their numbers are.
+#[derive(Debug, Drop)]
+pub struct TypeTable {
+    nodes: IndexSet<TyNode>,
+    fun: Name,
+}
+
+impl Model for TypeTable {
+    ghost use Rattle.std.specs.Prelude.{List as ListOf, []};
+    ghost use Rattle.std.specs.Coded.{coded_list};
+    ghost use Rattle.lt_definitions.specs.Types.{TypeTree};
+    ghost use Rattle.lt_types.specs.Codes.{coded_type};
+
+    ghost Value = { ListOf TypeTree };
+
+    ghost coded = { coded_list coded_type };
+
+    ghost use Rattle.lt_hol.specs.TypeTables.{types_after, IsTable};
+
+    ghost view = { λ t. types_after [] t.nodes.keys };
+
+    ghost invariant = { λ t. IsTable t.nodes.keys t.fun };
+}
+
+impl TypeTable {
+    /// No types.
+    pub fn new(alloc: Global) -> Result<TypeTable, Memory>
+        ensures { IfOk result (λ t. t ≡ []) }
+    {
+        Ok(TypeTable {
+            nodes: IndexSet::new(alloc),
+            fun: Name::word(alloc, "fun")?,
+        })
+    }
+
+    /// How many types there are.
+    pub fn len(&self) -> usize
+        ensures { result ≡ length self.now }
+    {
+        self.nodes.len()
+    }
+
+    /// The number of the type that a node makes, whose arguments are numbers of the table.
+    pub(crate) fn add(&mut self, node: TyNode) -> Result<usize, Memory>
+        requires { is_below (length self.old) node ≡ true }
+        ensures ok { IfOk result (λ id. slice_get self.new id ≡ Some (made_of self.old node)) }
+        ensures grows { Extends self.old self.new }
+    {
+        let (id, _) = self.nodes.insert_full(node)?;
+        Ok(id)
+    }
+
+    /// Whether two numbers are those of one type.
+    pub fn same(&self, a: usize, b: usize) -> bool
+        requires a { a < length self.now }
+        requires b { b < length self.now }
+        ensures { IsTrue result ↔ (type_at self.now a ≡ type_at self.now b) }
+    {
+        let _ = &self.nodes;
+        a == b
+    }
+
+    /// The number of the type of functions from one type to another.
+    pub fn fun(&mut self, alloc: Global, from: usize, to: usize) -> Result<usize, Memory>
+        requires from { from < length self.old }
+        requires to { to < length self.old }
+        ensures ok { IfOk result (λ id. slice_get self.new id ≡ Some (fun (type_at self.old from) (type_at self.old to))) }
+        ensures grows { Extends self.old self.new }
+    {
+        let name = self.fun.copy(alloc)?;
+        let args = List::from_vec(vec![in alloc; from, to]?);
+        self.add(TyNode::Con(name, args))
+    }
+
+    /// The numbers of argument and result, where the type is one of functions.
+    pub fn as_fun(&self, id: usize) -> Option<(usize, usize)>
+        requires { id < length self.now }
+        ensures parts { option_map (λ p. (type_at self.now p.0, type_at self.now p.1)) result ≡ function_parts (type_at self.now id) }
+        ensures within { IfSome result (λ p. (p.0 < length self.now) × (p.1 < length self.now)) }
+    {
+        node_parts(&self.fun, &self.nodes[id])
+    }
+
+    /// Puts the number of what a node makes of the last types in the place of their numbers.
+    fn put(
+        &mut self,
+        alloc: Global,
+        numbers: Vec<usize>,
+        node: &TyNode,
+    ) -> Result<Vec<usize>, Memory>
+        requires below { all_below (length self.old) numbers.items ≡ true }
+        requires room { HasRoom (types_at self.old numbers.items) node.now }
+        ensures types { IfOk result (λ v. types_at self.new v.items ≡ grow (types_at self.old numbers.items) node.now) }
+        ensures below { IfOk result (λ v. all_below (length self.new) v.items ≡ true) }
+        ensures grows { Extends self.old self.new }
+    {
+        let mut numbers = numbers;
+        match node {
+            TyNode::Var(name) => {
+                let id = self.add(TyNode::Var(name.copy(alloc)?))?;
+                numbers.push(id)?;
+                Ok(numbers)
+            }
+            TyNode::Con(name, places) => {
+                let args = numbers.split_off(numbers.len() - places.len())?;
+                let id = self.add(TyNode::Con(name.copy(alloc)?, List::from_vec(args)))?;
+                numbers.push(id)?;
+                Ok(numbers)
+            }
+        }
+    }
+
+    /// The number of a type. It takes time linear in the type.
+    pub fn intern(&mut self, alloc: Global, ty: &Ty) -> Result<usize, Memory>
+        ensures ok { IfOk result (λ id. slice_get self.new id ≡ Some ty.now) }
+        ensures grows { Extends self.old self.new }
+    {
+        let mut numbers = Vec::new(alloc);
+        for node in ty.nodes() {
+            numbers = self.put(alloc, numbers, node)?;
+        }
+        Ok(numbers[0])
+    }
+}
+
+/// The arguments of a node that makes a type of functions, whose name is given.
+fn node_parts(fun: &Name, node: &TyNode) -> Option<(usize, usize)>
+    ensures { result ≡ node_parts fun.now node.now }
+{
+    match node {
+        TyNode::Var(_) => None,
+        TyNode::Con(name, args) => {
+            if *name == *fun {
+                both(args.as_slice())
+            } else {
+                None
+            }
+        }
+    }
+}
+
+/// The two numbers of a list, if it has two.
+fn both(args: &[usize]) -> Option<(usize, usize)>
+    ensures { result ≡ both args.now }
+{
+    match args {
+        [from, to] => Some((*from, *to)),
+        _ => None,
+    }
+}

@@ -1,0 +1,10 @@
+//! The end of a stack.
+ghost use Rattle.std.specs.Prelude.{◌≡◌, ◌≤◌, ◌++◌, [], ◌∷◌, length};
+
+/// The last number, which is taken away.
+pub fn take_last(stack: &mut Vec<usize>) -> usize
+    requires { 1 ≤ length stack.old.items }
+    ensures { stack.old.items ≡ stack.new.items ++ result ∷ [] }
+{
+    stack.pop().unwrap()
+}
