@@ -11,3 +11,6 @@ mod theory;
 
 pub use fault::Fault;
 pub use theory::Theory;
+
+#[cfg(test)]
+mod tests;
