@@ -5,7 +5,7 @@ use Rattle.lt_definitions.specs.Theory.{IsPlainTheory}
 use Rattle.lt_definitions.specs.Texts.{Left}
 use Rattle.lt_definitions.specs.PlainTexts.{HasItems}
 use Rattle.lt_reader.specs.Reading.{Begins}
-use Rattle.lt_kernel2.specs.State.{State}
+use Rattle.lt_kernel.specs.State.{State}
 use Rattle.lt_theory.specs.Standing.{StandsFor}
 use Rattle.lt_run.specs.declared.counts.Counts.{Counts}
 use Rattle.lt_run.specs.Counts.{counts_of}
