@@ -11,4 +11,14 @@ pub mod DistinctTypes
 pub mod TypeNumbers
 pub mod VariableNames
 pub mod ReadTypes
+pub mod BinderLengths
+pub mod NewNames
+pub mod LongNames
+pub mod Signs
+pub mod OpenNodes
+pub mod SharedTrees
+pub mod NodeInstances
+pub mod TermPlaces
+pub mod NumberedNames
+pub mod DigitNames
 pub mod TypingSteps

@@ -5,6 +5,7 @@ ghost use Rattle.lt_definitions.specs.Terms.{bound_name};
 ghost use Rattle.lt_hol.specs.Lines.{are_in_order, has_children_below, is_within, rule_of, rules_of, trees};
 
 use crate::line::Line;
+use crate::shared_nodes::term_at;
 use crate::term::{Term, TermNode};
 use lt_types::{List, Memory, TryCopy};
 use std::alloc::Global;
@@ -72,11 +73,11 @@ impl Lines {
     }
 
     /// The term at a place among the nodes. It takes time linear in that term, as a tree.
-    pub fn term(&self, _alloc: Global, place: usize) -> Result<Term, Memory>
+    pub fn term(&self, alloc: Global, place: usize) -> Result<Term, Memory>
         requires { place < length self.now.nodes }
         ensures { IfOk result (λ t. t ≡ get_or (trees self.now.nodes) place (bound_name [])) }
     {
-        Err(Memory)
+        term_at(alloc, self.nodes.as_slice(), place)
     }
 }
 

@@ -18,7 +18,7 @@ use Rattle.lt_reader.specs.Reading.{Begins, AtEnd, HasNoItems}
 use Rattle.lt_reader.proofs.WholeTexts.{header_begins, item_goes_on, end_has_items, rest_has_items}
 use Rattle.lt_syntax.specs.ItemText.{line_of_counts}
 use Rattle.lt_theory.specs.Small.{is_small}
-use Rattle.lt_kernel2.specs.State.{State}
+use Rattle.lt_kernel.specs.State.{State}
 use Rattle.lt_theory.specs.Standing.{StandsFor}
 use Rattle.lt_run.specs.declared.walk.Cut.{Cut}
 use Rattle.lt_run.specs.declared.counts.Counts.{Counts}

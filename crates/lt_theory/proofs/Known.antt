@@ -7,7 +7,7 @@ use Rattle.lt_definitions.specs.Items.{Context, with_statements}
 use Rattle.lt_definitions.specs.Theory.{duplicate, refused_where, new_name}
 use Rattle.lt_definitions.specs.Nameless.{Nameless, nameless}
 use Rattle.lt_store.specs.Trees.{tree_at}
-use Rattle.lt_kernel2.specs.State.{State, Stays}
+use Rattle.lt_kernel.specs.State.{State, Stays}
 use Rattle.lt_theory.specs.Standing.{StandsFor}
 
 found-mapped : {A B : Type 0} (f : A → B) (l : Chars) (ps : List (Chars × A)) → is_some (found l (map (λ p. (p.0, f p.1)) ps)) ≡ is_some (found l ps)

@@ -13,9 +13,9 @@ use Rattle.lt_definitions.specs.NamelessRules.{nameless_outcome, nameless_step}
 use Rattle.lt_definitions.proofs.NamelessSteps.{step_is_nameless}
 use Rattle.lt_hol.specs.declared.line.Line.{Line}
 use Rattle.lt_hol.specs.declared.reason.Reason.{Reason as Kernel}
-use Rattle.lt_kernel2.specs.Reasons.{reason_of}
-use Rattle.lt_kernel2.specs.Sequents.{sequent_at, sequents_at}
-use Rattle.lt_kernel2.specs.State.{State, step_of, Stays, Keeps, AddsLine}
+use Rattle.lt_kernel.specs.Reasons.{reason_of}
+use Rattle.lt_kernel.specs.Sequents.{sequent_at, sequents_at}
+use Rattle.lt_kernel.specs.State.{State, step_of, Stays, Keeps, AddsLine}
 use Rattle.lt_theory.specs.declared.fault.Fault.{Fault as Refusal}
 use Rattle.lt_theory.specs.declared.fault.Fault.TheVariants.{Refused, Memory}
 use Rattle.lt_theory.specs.Standing.{StandsFor}

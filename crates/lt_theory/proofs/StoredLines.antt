@@ -14,7 +14,7 @@ use Rattle.lt_hol.specs.declared.line.Line.{Line}
 use Rattle.lt_hol.specs.declared.line.Line.TheVariants.{Assume, Weaken, Refl, Beta, Eta, ImpI, AllE, Inst, Select, Ccontr}
 use Rattle.lt_hol.specs.Lines.{rule_of}
 use Rattle.lt_store.specs.declared.node.Node.{Node}
-use Rattle.lt_kernel2.specs.Lines.{rule_at, LineIsIn}
+use Rattle.lt_kernel.specs.Lines.{rule_at, LineIsIn}
 use Rattle.lt_theory.specs.Storing.{IsStored, IsStoredLine}
 
 -- a term without a fault has its binders

@@ -14,9 +14,9 @@ use Rattle.lt_definitions.specs.Nameless.{nameless, NamelessSequent, nameless_se
 use Rattle.lt_definitions.proofs.Alphas.{alpha_is_nameless, alpha_is_tested}
 use Rattle.lt_store.specs.declared.node.Node.{Node}
 use Rattle.lt_store.specs.Trees.{tree_at}
-use Rattle.lt_kernel2.specs.declared.sequent.Sequent.{Sequent as Stored}
-use Rattle.lt_kernel2.specs.declared.sequent.Step.{Step}
-use Rattle.lt_kernel2.specs.Sequents.{sequent_at, sequents_at}
+use Rattle.lt_kernel.specs.declared.sequent.Sequent.{Sequent as Stored}
+use Rattle.lt_kernel.specs.declared.sequent.Step.{Step}
+use Rattle.lt_kernel.specs.Sequents.{sequent_at, sequents_at}
 use Rattle.lt_theory.specs.Refusing.{statement_tests}
 use Rattle.lt_theory.proofs.StoredLines.{whole-term}
 

@@ -4,7 +4,7 @@ use Rattle.lt_definitions.specs.Items.{Context}
 use Rattle.lt_definitions.specs.Rules.{Sequent, Rule, step}
 use Rattle.lt_definitions.specs.Derivations.{LineFault, line_outcome, rule_fault, derived}
 use Rattle.lt_definitions.specs.Nameless.{nameless_sequent}
-use Rattle.lt_kernel2.specs.State.{State, sequents}
+use Rattle.lt_kernel.specs.State.{State, sequents}
 use Rattle.lt_theory.specs.declared.fault.Fault.{Fault}
 use Rattle.lt_theory.specs.declared.fault.Fault.TheVariants.{Refused, Memory}
 

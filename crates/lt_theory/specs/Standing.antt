@@ -3,8 +3,8 @@ use Rattle.std.specs.Prelude.{◌≡◌, None, IsSome, Result, Ok, Err}
 use Rattle.lt_definitions.specs.Items.{Context, Item, with_item}
 use Rattle.lt_definitions.specs.Theory.{refusal}
 use Rattle.lt_definitions.specs.NamelessRules.{nameless_statements}
-use Rattle.lt_kernel2.specs.State.{statements}
-pub use Rattle.lt_kernel2.specs.State.{State}
+use Rattle.lt_kernel.specs.State.{statements}
+pub use Rattle.lt_kernel.specs.State.{State}
 use Rattle.lt_theory.specs.declared.fault.Fault.{Fault}
 use Rattle.lt_theory.specs.declared.fault.Fault.TheVariants.{Refused, Memory}
 

@@ -4,7 +4,7 @@ use Rattle.lt_definitions.specs.Types.{Chars}
 use Rattle.lt_definitions.specs.Terms.{TermTree}
 use Rattle.lt_definitions.specs.Items.{Context, with_statements}
 use Rattle.lt_definitions.specs.Theory.{new_name}
-use Rattle.lt_kernel2.specs.State.{State}
+use Rattle.lt_kernel.specs.State.{State}
 use Rattle.lt_theory.specs.declared.fault.Fault.{Fault}
 use Rattle.lt_theory.specs.declared.fault.Fault.TheVariants.{Refused, Memory}
 use Rattle.lt_theory.specs.Standing.{StandsFor}

@@ -9,7 +9,7 @@ use Rattle.lt_definitions.specs.NamelessRules.{nameless_rule}
 use Rattle.lt_hol.specs.declared.line.Line.{Line}
 use Rattle.lt_store.specs.declared.node.Node.{Node}
 use Rattle.lt_store.specs.Trees.{tree_at}
-use Rattle.lt_kernel2.specs.Lines.{rule_at, IsGoodLine}
+use Rattle.lt_kernel.specs.Lines.{rule_at, IsGoodLine}
 use Rattle.lt_theory.specs.declared.fault.Fault.{Fault}
 use Rattle.lt_theory.specs.declared.fault.Fault.TheVariants.{Refused, Memory}
 

@@ -4,7 +4,7 @@ ghost use Rattle.lt_theory.specs.Standing.{StandsFor, Adds};
 
 use crate::fault::Fault;
 use lt_hol::{Name, TryCopy, Ty, TypeFault};
-use lt_kernel2::Proof;
+use lt_kernel::Proof;
 use lt_store::PlainStore;
 use std::alloc::Global;
 

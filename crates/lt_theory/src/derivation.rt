@@ -3,14 +3,14 @@ ghost use Rattle.std.specs.Prelude.{◌≡◌, ◌<◌, [], List, length, true, 
 ghost use Rattle.lt_definitions.specs.Items.{Context};
 ghost use Rattle.lt_definitions.specs.Rules.{Sequent};
 ghost use Rattle.lt_hol.specs.Lines.{trees, rule_of, rules_of, is_within};
-ghost use Rattle.lt_kernel2.specs.State.{Stays};
+ghost use Rattle.lt_kernel.specs.State.{Stays};
 ghost use Rattle.lt_theory.specs.Standing.{StandsFor};
 ghost use Rattle.lt_theory.specs.Deriving.{HasSequents, DerivesLine, DerivesLines};
 
 use crate::fault::Fault;
 use crate::storing::store_line;
 use lt_hol::{Line, Lines};
-use lt_kernel2::{Proof, RuleFault};
+use lt_kernel::{Proof, RuleFault};
 use lt_store::PlainStore;
 use std::alloc::Global;
 

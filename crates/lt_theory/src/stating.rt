@@ -16,7 +16,7 @@ use crate::closed::is_closed;
 use crate::derivation::add_lines;
 use crate::fault::Fault;
 use lt_hol::{Lines, Memory, Name, Signature, Term, TryCopy, Ty, TypeFault};
-use lt_kernel2::{Proof, RuleFault};
+use lt_kernel::{Proof, RuleFault};
 use lt_store::{Id, PlainStore, TermStore};
 use std::alloc::Global;
 

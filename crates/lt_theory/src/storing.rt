@@ -4,13 +4,13 @@ ghost use Rattle.lt_definitions.specs.Terms.{bound_name};
 ghost use Rattle.lt_definitions.specs.Typing.{type_fault};
 ghost use Rattle.lt_definitions.specs.Derivations.{term_fault};
 ghost use Rattle.lt_hol.specs.Lines.{trees, rule_of, is_within};
-ghost use Rattle.lt_kernel2.specs.State.{Keeps};
+ghost use Rattle.lt_kernel.specs.State.{Keeps};
 ghost use Rattle.lt_theory.specs.Refusing.{Tests};
 ghost use Rattle.lt_theory.specs.Storing.{StoresTerm, StoresLine};
 
 use crate::fault::Fault;
 use lt_hol::{Line, Lines, Signature, Term, TryCopy, Ty, TypeFault};
-use lt_kernel2::Proof;
+use lt_kernel::Proof;
 use lt_store::{Id, PlainStore};
 use std::alloc::Global;
 

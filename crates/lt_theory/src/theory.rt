@@ -9,7 +9,7 @@ use crate::declaring::{add_const, add_type};
 use crate::fault::Fault;
 use crate::stating::{add_axiom, add_lemma};
 use lt_hol::{Item, Memory, Signature};
-use lt_kernel2::Proof;
+use lt_kernel::Proof;
 use lt_store::PlainStore;
 use std::alloc::Global;
 use std::marker::Model;
@@ -21,7 +21,7 @@ pub struct Theory {
 }
 
 impl Model for Theory {
-    ghost use Rattle.lt_kernel2.specs.State.{State};
+    ghost use Rattle.lt_kernel.specs.State.{State};
 
     ghost Value = { State };
 

@@ -1,7 +1,7 @@
 use Rattle.std.proofs.Common.{◌≡◌, length}
 use Rattle.lt_definitions.specs.Items.{Context}
 use Rattle.lt_hol.specs.Lines.{rules_of}
-use Rattle.lt_kernel2.specs.State.{Stays}
+use Rattle.lt_kernel.specs.State.{Stays}
 use Rattle.lt_theory.specs.Standing.{StandsFor}
 use Rattle.lt_theory.proofs.LineOutcomes.{IsDerivedTo}
 use Rattle.lt_theory.proofs.derivation.add_lines.Given as goal
