@@ -1,4 +1,4 @@
-pub mod Nodes
+pub mod TermNodes
 pub mod Stacks
 pub mod Lookups
 pub mod TypeFaults
@@ -12,3 +12,4 @@ pub mod TypeNumbers
 pub mod VariableNames
 pub mod ReadTypes
 pub mod TypingSteps
+pub mod NodeCounts

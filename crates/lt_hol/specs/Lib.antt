@@ -11,3 +11,4 @@ pub mod TypeTables
 pub mod Instances
 pub mod Makings
 pub mod Outcomes
+pub mod Counts

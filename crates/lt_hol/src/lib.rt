@@ -4,6 +4,7 @@
 mod binder_types;
 mod bound_names;
 mod check_type;
+mod counting;
 mod form_part;
 mod instance;
 mod item;
@@ -25,6 +26,7 @@ mod type_variables;
 mod typing;
 
 pub use bound_names::{Binder, binders};
+pub use counting::nodes;
 pub use form_part::{PropertyPart, QuotientPart, RelatorPart, RulePart};
 pub use item::Item;
 pub use line::Line;
@@ -47,3 +49,6 @@ pub type Terms = List<Term>;
 
 /// A list of items.
 pub type Items = List<Item>;
+
+#[cfg(test)]
+mod typing_tests;
