@@ -1,4 +1,4 @@
-pub mod Nodes
+pub mod TermNodes
 pub mod Stacks
 pub mod Lookups
 pub mod TypeFaults
@@ -22,3 +22,4 @@ pub mod TermPlaces
 pub mod NumberedNames
 pub mod DigitNames
 pub mod TypingSteps
+pub mod NodeCounts

@@ -17,3 +17,4 @@ pub mod Tasks
 pub mod TypeInstances
 pub mod Numberings
 pub mod Outcomes
+pub mod Counts

@@ -6,6 +6,7 @@ mod binder_types;
 mod bound_names;
 mod check_type;
 mod closing;
+mod counting;
 mod form_part;
 mod instance;
 mod item;
@@ -36,6 +37,7 @@ mod up_to_types;
 pub use alpha::alpha_eq;
 pub use bound_names::{Binder, binders};
 pub use closing::close_free;
+pub use counting::nodes;
 pub use form_part::{PropertyPart, QuotientPart, RelatorPart, RulePart};
 pub use item::Item;
 pub use line::Line;
@@ -63,3 +65,6 @@ pub type Terms = List<Term>;
 
 /// A list of items.
 pub type Items = List<Item>;
+
+#[cfg(test)]
+mod typing_tests;
