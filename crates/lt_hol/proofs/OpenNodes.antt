@@ -13,7 +13,7 @@ use Rattle.lt_hol.specs.declared.bound_names.Binder.{Binder}
 use Rattle.lt_hol.specs.Layout.{under, term_size, term_nodes, HasRoom}
 use Rattle.lt_hol.specs.BoundNames.{Places, further, binder_of, binders_in}
 use Rattle.lt_hol.specs.Openings.{opening, is_abstraction, is_lambda, is_at, grow_open}
-use Rattle.lt_hol.proofs.Nodes.{length-term_nodes}
+use Rattle.lt_hol.proofs.TermNodes.{length-term_nodes}
 use Rattle.lt_hol.proofs.Signs.{names, length-binders_in}
 
 -- the nodes that are left, with their binders, make these terms of those that were made

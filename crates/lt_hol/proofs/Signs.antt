@@ -18,7 +18,7 @@ use Rattle.lt_hol.specs.declared.bound_names.Binder.{Binder}
 use Rattle.lt_hol.specs.Layout.{under, term_size, term_nodes}
 use Rattle.lt_hol.specs.BoundNames.{Places, further, binder_of, binders_in}
 use Rattle.lt_hol.specs.AlikeNodes.{is_constant, agrees, agree}
-use Rattle.lt_hol.proofs.Nodes.{length-term_nodes}
+use Rattle.lt_hol.proofs.TermNodes.{length-term_nodes}
 
 -- a node without what alpha equality passes over
 data Sign : Type 0 where

@@ -1,6 +1,6 @@
 use Rattle.std.proofs.Common.{◌≡◌, [], arith}
 use Rattle.std.proofs.lemmas.Grind.{common_steps}
-use Rattle.lt_hol.proofs.Nodes.{length-term_nodes}
+use Rattle.lt_hol.proofs.TermNodes.{length-term_nodes}
 use Rattle.lt_hol.proofs.NumberedNames.{walk-first, walk-below, walk-step, walk-last, walk-smaller}
 use Rattle.lt_hol.proofs.numbering.numbering.Goals as goal
 
