@@ -28,6 +28,4 @@ pub use term_store::TermStore;
 pub use typing::type_at;
 
 #[cfg(test)]
-mod term_tests;
-#[cfg(test)]
 mod tests;
