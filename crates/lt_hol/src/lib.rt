@@ -57,8 +57,8 @@ pub use term_builder::TermBuilder;
 pub use term_instances::term_instance;
 pub use type_fault::TypeFault;
 pub use type_table::TypeTable;
-pub use up_to_types::same_up_to_types;
 pub use typing::applied_types;
+pub use up_to_types::same_up_to_types;
 
 /// A list of terms.
 pub type Terms = List<Term>;

@@ -339,34 +339,22 @@ fn deep_type(alloc: Global, from: &str, to: &str, depth: usize) -> Result<Ty, Fa
     Ok(builder.finish(alloc)?)
 }
 
-#[test]
-fn depth_has_no_limit(rt: HostRuntime) -> Result<(), Fail> {
-    let alloc = rt.alloc();
-    let sig = Signature::new(alloc)?;
-    let (x, y, a) = (name(alloc, "x")?, name(alloc, "y")?, variable(alloc, "a")?);
-    let mut term = Term::lam(
-        alloc,
-        y.copy(alloc)?,
-        a.copy(alloc)?,
-        Term::bound(alloc, x.copy(alloc)?)?,
-    )?;
-    for _ in 0..99_998 {
-        term = Term::lam(alloc, y.copy(alloc)?, a.copy(alloc)?, term)?;
+/// \x. \y. .. \y. x at one type, of so many binders.
+fn deep_abstraction(alloc: Global, ty: &Ty, binders: usize) -> Result<Term, Fail> {
+    let y = name(alloc, "y")?;
+    let mut term = bound(alloc, "x")?;
+    for _ in 1..binders {
+        term = Term::lam(alloc, y.copy(alloc)?, ty.copy(alloc)?, term)?;
     }
-    term = Term::lam(alloc, x, a.copy(alloc)?, term)?;
-    let deep = deep_type(alloc, "a", "a", 100_000)?;
-    assert!(rt; sig.type_of(alloc, &term)? == deep);
-    assert!(rt;
-        binders(alloc, &term)?[0]
-            == Some(Binder {
-                place: 100_000,
-                index: 99_999
-            })
-    );
-    assert_eq!(rt; nodes(&term), 200_001);
-    let mut chain = TermBuilder::new(alloc).free(alloc, name(alloc, "f")?, deep.copy(alloc)?)?;
-    for _ in 0..100_000 {
-        chain = chain.free(alloc, name(alloc, "c")?, a.copy(alloc)?)?;
+    Ok(lam(alloc, "x", ty, term)?)
+}
+
+/// A function applied to so many arguments of one type.
+fn deep_application(alloc: Global, function: &Ty, ty: &Ty, count: usize) -> Result<Term, Fail> {
+    let (f, c) = (name(alloc, "f")?, name(alloc, "c")?);
+    let mut chain = TermBuilder::new(alloc).free(alloc, f, function.copy(alloc)?)?;
+    for _ in 0..count {
+        chain = chain.free(alloc, c.copy(alloc)?, ty.copy(alloc)?)?;
         if chain.len() < 2 {
             return Err("no terms".into());
         }
@@ -375,6 +363,40 @@ fn depth_has_no_limit(rt: HostRuntime) -> Result<(), Fail> {
     if chain.len() != 1 {
         return Err("not one term".into());
     }
-    assert!(rt; sig.type_of(alloc, &chain.finish())? == a);
+    Ok(chain.finish())
+}
+
+#[test]
+fn deep_abstractions_have_types(rt: HostRuntime) -> Result<(), Fail> {
+    let alloc = rt.alloc();
+    let sig = Signature::new(alloc)?;
+    let a = variable(alloc, "a")?;
+    let term = deep_abstraction(alloc, &a, 100_000)?;
+    assert!(rt; sig.type_of(alloc, &term)? == deep_type(alloc, "a", "a", 100_000)?);
+    assert_eq!(rt; nodes(&term), 200_001);
+    Ok(())
+}
+
+#[test]
+fn deep_applications_have_types(rt: HostRuntime) -> Result<(), Fail> {
+    let alloc = rt.alloc();
+    let sig = Signature::new(alloc)?;
+    let a = variable(alloc, "a")?;
+    let deep = deep_type(alloc, "a", "a", 100_000)?;
+    let chain = deep_application(alloc, &deep, &a, 100_000)?;
+    assert!(rt; sig.type_of(alloc, &chain)? == a);
+    Ok(())
+}
+
+#[test]
+fn the_outermost_of_many_binders_is_found(rt: HostRuntime) -> Result<(), Fail> {
+    let alloc = rt.alloc();
+    let term = deep_abstraction(alloc, &variable(alloc, "a")?, 100_000)?;
+    let found = binders(alloc, &term)?;
+    let want = Binder {
+        place: 100_000,
+        index: 99_999,
+    };
+    assert!(rt; found.first() == Some(&Some(want)));
     Ok(())
 }

@@ -102,7 +102,7 @@ rest_has_items text items all s (ps, front, e) (vs, (z, spans, g), (qs, k, _)) =
     let whole : vs ≡ parts_lexemes (header ∷ ps) r.0 = r.1 ∙ sym (parts-split (header ∷ ps) r.0) in
     let rest : IsRest r.0 = strip (header ∷ ps) r.0 (header ∷ qs, sym whole ∙ k) in
     let parts : vs ≡ parts_lexemes (header ∷ (ps ++ rest.0)) [] =
-        whole ∙ ap (parts_lexemes (header ∷ ps)) rest.1 ∙ parts-append (header ∷ ps) rest.0 [] in
+    whole ∙ ap (parts_lexemes (header ∷ ps)) rest.1 ∙ parts-append (header ∷ ps) rest.0 [] in
     let items_are : items ++ items_of rest.0 ≡ items_of (ps ++ rest.0) =
-        ap (λ (z : List Item). z ++ items_of rest.0) e ∙ sym (items-append ps rest.0) in
+    ap (λ (z : List Item). z ++ items_of rest.0) e ∙ sym (items-append ps rest.0) in
     (items_of rest.0, (vs, (z, spans, g), (ps ++ rest.0, parts, items_are)))
