@@ -5,15 +5,19 @@ use lt_io::{FileLibrary, StdSink};
 use lt_run::{Text, lt};
 use std::alloc::AllocError;
 use std::env;
+use std::io::ErrorKind;
 use std::process::ExitCode;
 
 // The words behind the program's name. Arguments that are no text are no words.
 fn read_words(rt: &HostRuntime) -> Result<Vec<Text>, AllocError> {
     let mut words = Vec::new(rt.alloc());
-    if let Ok(args) = env::args(rt) {
-        for arg in args.skip(1) {
-            words.push(Text::new(rt.alloc(), arg.as_str())?)?;
-        }
+    let args = match env::args(rt) {
+        Ok(args) => args,
+        Err(fault) if fault.kind() == ErrorKind::OutOfMemory => return Err(AllocError),
+        Err(_) => return Ok(words),
+    };
+    for arg in args.skip(1) {
+        words.push(Text::new(rt.alloc(), arg.as_str())?)?;
     }
     Ok(words)
 }
