@@ -1,15 +1,14 @@
 -- Tests of items, and whether a last line proves a statement.
-use Rattle.std.proofs.Common.{◌≡◌, ◌↔◌, ℕ, zero, suc, List, [], ◌∷◌, length, map, Bool, true, false, ◌&&◌, not, IsTrue, Option, Some, None, is_some, option_map, IsSome, Result, Ok, Err, refl, sym, ◌∙◌, ap, subst, arith}
+use Rattle.std.proofs.Common.{◌≡◌, ◌↔◌, ℕ, zero, suc, List, [], ◌∷◌, length, map, Bool, true, false, ◌&&◌, IsTrue, Option, Some, None, option_map, Result, Ok, Err, refl, sym, ◌∙◌, ap, arith}
 use Rattle.std.proofs.lemmas.List.{length-map}
 use Rattle.std.proofs.lemmas.Option.{slice_get-map}
-use Rattle.lt_definitions.specs.Types.{Chars, TypeTree}
+use Rattle.lt_definitions.specs.Types.{TypeTree}
 use Rattle.lt_definitions.specs.Terms.{TermTree}
 use Rattle.lt_definitions.specs.Typing.{Signature, Fault, typed}
-use Rattle.lt_definitions.specs.Items.{Context, axiom_item, lemma_item}
 use Rattle.lt_definitions.specs.Alpha.{is_alpha}
-use Rattle.lt_definitions.specs.Rules.{Sequent, Rule, line_at}
-use Rattle.lt_definitions.specs.Derivations.{LineFault, ill_typed, no_step, fault_of, derived}
-use Rattle.lt_definitions.specs.Theory.{Refusal, not_proved, first_of, refused_where, boolean_test, closed_test, statement_test, new_name, last_of, has_none, is_proved, proof_test, refusal}
+use Rattle.lt_definitions.specs.Rules.{Sequent, line_at}
+use Rattle.lt_definitions.specs.Derivations.{fault_of}
+use Rattle.lt_definitions.specs.Theory.{Refusal, first_of, boolean_test, closed_test, last_of, has_none, is_proved}
 use Rattle.lt_definitions.specs.Nameless.{nameless, NamelessSequent, nameless_sequent, IsWhole}
 use Rattle.lt_definitions.proofs.Alphas.{alpha_is_nameless, alpha_is_tested}
 use Rattle.lt_store.specs.declared.node.Node.{Node}

@@ -1,4 +1,5 @@
 //! Adds types and constants.
+ghost use Rattle.std.specs.Prelude.{◌≡◌, OnErr};
 ghost use Rattle.lt_definitions.specs.Items.{Context, type_item, const_item};
 ghost use Rattle.lt_theory.specs.Standing.{StandsFor, Adds};
 
@@ -15,7 +16,8 @@ pub(crate) fn add_type(
     name: &Name,
     arity: usize,
 ) -> Result<(), Fault>
-    ensures { (ctx : Context) → StandsFor ctx proof.old → Adds ctx (type_item name.now arity) proof.new result }
+    ensures adds { (ctx : Context) → StandsFor ctx proof.old → Adds ctx (type_item name.now arity) proof.new result }
+    ensures kept { OnErr result (proof.new ≡ proof.old) }
 {
     let name = name.copy(alloc)?;
     match proof.add_type(alloc, name, arity) {
@@ -32,7 +34,8 @@ pub(crate) fn add_const(
     name: &Name,
     ty: &Ty,
 ) -> Result<(), Fault>
-    ensures { (ctx : Context) → StandsFor ctx proof.old → Adds ctx (const_item name.now ty.now) proof.new result }
+    ensures adds { (ctx : Context) → StandsFor ctx proof.old → Adds ctx (const_item name.now ty.now) proof.new result }
+    ensures kept { OnErr result (proof.new ≡ proof.old) }
 {
     let name = name.copy(alloc)?;
     let ty = ty.copy(alloc)?;

@@ -1,5 +1,5 @@
 //! Adds axioms and lemmas.
-ghost use Rattle.std.specs.Prelude.{◌≡◌, ◌<◌, [], List, length, true, IfOk};
+ghost use Rattle.std.specs.Prelude.{◌≡◌, ◌<◌, [], List, length, true, IfOk, OnErr};
 ghost use Rattle.lt_definitions.specs.Items.{Context, axiom_item, lemma_item};
 ghost use Rattle.lt_definitions.specs.Terms.{TermTree};
 ghost use Rattle.lt_definitions.specs.Rules.{Sequent};
@@ -7,6 +7,7 @@ ghost use Rattle.lt_definitions.specs.Theory.{is_proved, last_of};
 ghost use Rattle.lt_definitions.specs.Nameless.{nameless};
 ghost use Rattle.lt_hol.specs.Lines.{rules_of};
 ghost use Rattle.lt_store.specs.Trees.{tree_at};
+ghost use Rattle.lt_kernel2.specs.State.{Stays};
 ghost use Rattle.lt_theory.specs.Refusing.{Tests, statement_tests};
 ghost use Rattle.lt_theory.specs.Standing.{StandsFor, Adds};
 ghost use Rattle.lt_theory.specs.Stating.{Names};
@@ -27,7 +28,8 @@ pub(crate) fn add_axiom(
     label: &Name,
     statement: &Term,
 ) -> Result<(), Fault>
-    ensures { (ctx : Context) → StandsFor ctx proof.old → Adds ctx (axiom_item label.now statement.now) proof.new result }
+    ensures adds { (ctx : Context) → StandsFor ctx proof.old → Adds ctx (axiom_item label.now statement.now) proof.new result }
+    ensures kept { OnErr result (Stays proof.old proof.new) }
 {
     check_statement(alloc, proof.signature(), statement)?;
     let id = proof.add_term(alloc, statement)?;
@@ -42,7 +44,8 @@ pub(crate) fn add_lemma(
     statement: &Term,
     lines: &Lines,
 ) -> Result<(), Fault>
-    ensures { (ctx : Context) → StandsFor ctx proof.old → Adds ctx (lemma_item label.now statement.now (rules_of lines.now.nodes lines.now.lines)) proof.new result }
+    ensures adds { (ctx : Context) → StandsFor ctx proof.old → Adds ctx (lemma_item label.now statement.now (rules_of lines.now.nodes lines.now.lines)) proof.new result }
+    ensures kept { OnErr result (Stays proof.old proof.new) }
 {
     check_statement(alloc, proof.signature(), statement)?;
     proof.clear();
@@ -81,8 +84,9 @@ fn name_statement(
     statement: Id,
 ) -> Result<(), Fault>
     requires { statement < length proof.old.nodes }
-    ensures { (ctx : Context) (t : TermTree) → StandsFor ctx proof.old → tree_at proof.old.nodes statement ≡ nameless [] t
+    ensures names { (ctx : Context) (t : TermTree) → StandsFor ctx proof.old → tree_at proof.old.nodes statement ≡ nameless [] t
         → Names ctx label.now t proof.new result }
+    ensures kept { OnErr result (proof.new ≡ proof.old) }
 {
     let label = label.copy(alloc)?;
     match proof.add_statement(alloc, label, statement) {

@@ -1,5 +1,5 @@
 //! A theory that is checked item by item.
-ghost use Rattle.std.specs.Prelude.{◌≡◌, true, IfOk};
+ghost use Rattle.std.specs.Prelude.{◌≡◌, true, IfOk, OnErr};
 ghost use Rattle.lt_definitions.specs.Items.{Context, empty};
 ghost use Rattle.lt_hol.specs.Items.{item_of};
 ghost use Rattle.lt_theory.specs.Small.{is_small};
@@ -44,10 +44,11 @@ impl Theory {
         })
     }
 
-    /// Adds an item where it is valid over those before it; else it is refused. After an error the theory is of no use.
+    /// Adds an item where it is valid over those before it; else it is refused. After an error the theory stands for what it stood for.
     pub fn add_item(&mut self, alloc: Global, item: &Item) -> Result<(), Fault>
         requires { is_small (item_of item.now) ≡ true }
-        ensures { (ctx : Context) → StandsFor ctx self.old → Adds ctx (item_of item.now) self.new result }
+        ensures adds { (ctx : Context) → StandsFor ctx self.old → Adds ctx (item_of item.now) self.new result }
+        ensures kept { OnErr result ((ctx : Context) → StandsFor ctx self.old → StandsFor ctx self.new) }
     {
         match item {
             Item::TypeDecl(name, arity) => add_type(alloc, &mut self.proof, name, *arity),
