@@ -7,7 +7,7 @@ ghost use Rattle.lt_definitions.specs.Theory.{is_proved, last_of};
 ghost use Rattle.lt_definitions.specs.Nameless.{nameless};
 ghost use Rattle.lt_hol.specs.Lines.{rules_of};
 ghost use Rattle.lt_store.specs.Trees.{tree_at};
-ghost use Rattle.lt_kernel2.specs.State.{Stays};
+ghost use Rattle.lt_kernel.specs.State.{Stays};
 ghost use Rattle.lt_theory.specs.Refusing.{Tests, statement_tests};
 ghost use Rattle.lt_theory.specs.Standing.{StandsFor, Adds};
 ghost use Rattle.lt_theory.specs.Stating.{Names};
