@@ -1,9 +1,9 @@
 -- The parts of types of functions, read off by matching.
-use Rattle.std.proofs.Common.{◌≡◌, ◌∙◌, ◌&&◌, ℕ, List, [], ◌∷◌, Bool, true, false, Option, Some, None, Ok, Err, refl, ap, sym, if◌then◌else◌}
+use Rattle.std.proofs.Common.{◌≡◌, ◌∙◌, ◌&&◌, [], ◌∷◌, Bool, true, false, Option, Some, None, Ok, Err, refl, ap, sym, if◌then◌else◌}
 use Rattle.std.specs.Prelude.{codes}
 use Rattle.std.specs.Str.{chars}
 use Rattle.std.proofs.lemmas.Str.{chars-encodes}
-use Rattle.lt_definitions.specs.Types.{Chars, TypeTree, TypeTrees, TypeMap, Matches, type_variable, type_constructor, no_types, type_and, bool, fun, same_name, same_type, type_instance}
+use Rattle.lt_definitions.specs.Types.{Chars, TypeTree, TypeMap, Matches, type_variable, type_constructor, no_types, type_and, bool, fun, same_name, same_type, type_instance}
 use Rattle.lt_definitions.specs.Typing.{mismatch}
 use Rattle.lt_definitions.specs.Rules.{joined_type, predicate_over, ok_of}
 use Rattle.lt_definitions.proofs.Tests.{name-true}

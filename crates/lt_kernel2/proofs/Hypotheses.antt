@@ -1,5 +1,5 @@
 -- Lists of hypotheses and the terms that they stand for.
-use Rattle.std.proofs.Common.{◌≡◌, ℕ, suc, ◌+◌, ◌<◌, ◌≤◌, List, [], ◌∷◌, ◌++◌, length, get_or, take, drop, drop-cons, ◌||◌, map, filter, ◌↔◌, Bool, true, false, not, refl, ap, sym, ◌∙◌, arith, if◌then◌else◌, cond, append-nil}
+use Rattle.std.proofs.Common.{◌≡◌, ℕ, ◌+◌, ◌<◌, List, [], ◌∷◌, ◌++◌, length, get_or, take, drop, ◌||◌, ◌↔◌, Bool, true, false, not, refl, ap, sym, ◌∙◌, if◌then◌else◌, cond, append-nil}
 use Rattle.std.proofs.lemmas.List.{map-append}
 use Rattle.std.proofs.lemmas.List.Elements.{filter-append}
 use Rattle.std.specs.List.{list_any}

@@ -1,9 +1,8 @@
 -- Lines by their numbers.
-use Rattle.std.proofs.Common.{◌≡◌, ℕ, zero, suc, ◌-◌, ◌<◌, ◌≤◌, List, length, slice_get, get_or, Option, Some, None, refl, ap, sym, ◌∙◌, subst, arith, map}
+use Rattle.std.proofs.Common.{◌≡◌, ℕ, zero, suc, ◌-◌, ◌<◌, ◌≤◌, List, length, get_or, Option, Some, None, refl, ap, sym, ◌∙◌, subst, arith}
 use Rattle.std.specs.Option.{option_map}
 use Rattle.std.proofs.lemmas.Option.{slice_get_read, slice_get_past, slice_get-map, none-some, get_or_from_slice_get, slice_get_within}
 use Rattle.lt_definitions.specs.Rules.{line_at}
-use Rattle.lt_definitions.specs.Nameless.{NamelessSequent}
 use Rattle.lt_store.specs.declared.node.Node.{Node}
 use Rattle.lt_kernel2.specs.declared.sequent.Step.{Step}
 use Rattle.lt_kernel2.specs.Sequents.{sequent_at, sequents_at, AreWithin, IsWithin}

@@ -1,8 +1,8 @@
 -- What the other rules give where nothing refuses them.
-use Rattle.std.proofs.Common.{◌≡◌, ◌∙◌, ℕ, zero, suc, List, [], ◌∷◌, Bool, true, false, not, Option, Some, None, refl, ap, sym, map, if◌then◌else◌}
+use Rattle.std.proofs.Common.{◌≡◌, ◌∙◌, ℕ, zero, List, [], ◌∷◌, true, false, not, Option, Some, None, refl, ap, sym, map, if◌then◌else◌}
 use Rattle.std.specs.Option.{option_map}
 use Rattle.std.specs.List.{list_any}
-use Rattle.lt_definitions.specs.Types.{Chars, TypeTree, bool, fun}
+use Rattle.lt_definitions.specs.Types.{Chars, TypeTree, fun}
 use Rattle.lt_definitions.specs.Typing.{Signature}
 use Rattle.lt_definitions.specs.Nameless.{Nameless, NamelessSequent, nameless_free, nameless_bound, nameless_loose, nameless_constant, nameless_application, nameless_abstraction}
 use Rattle.lt_definitions.specs.Rules.{line_at, joined_type}

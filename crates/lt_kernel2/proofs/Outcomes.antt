@@ -1,6 +1,6 @@
 -- What rules give, step by step, and that the sequents of a store's ids are that.
-use Rattle.std.proofs.Common.{◌≡◌, ℕ, ◌<◌, List, [], ◌∷◌, length, Bool, true, false, Option, Some, None, Result, Ok, Err, refl, ap, sym, ◌∙◌, arith, subst}
-use Rattle.lt_definitions.specs.Types.{Chars, TypeTree, bool}
+use Rattle.std.proofs.Common.{◌≡◌, ℕ, ◌<◌, List, length, Bool, true, false, Option, Some, None, Result, Ok, Err, ap, sym, ◌∙◌}
+use Rattle.lt_definitions.specs.Types.{TypeTree, bool}
 use Rattle.lt_definitions.specs.Typing.{Signature}
 use Rattle.lt_definitions.specs.Rules.{Reason, with_found, where_holds, line_at}
 use Rattle.lt_definitions.specs.Nameless.{Nameless, NamelessSequent}

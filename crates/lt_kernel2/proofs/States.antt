@@ -5,19 +5,19 @@ use Rattle.std.proofs.lemmas.List.{map-append}
 use Rattle.std.proofs.lemmas.List.Elements.{All-append, All-cons, All-nil}
 use Rattle.lt_definitions.specs.Types.{Chars}
 use Rattle.lt_definitions.specs.Typing.{Signature}
-use Rattle.lt_definitions.specs.Nameless.{Nameless, NamelessSequent}
+use Rattle.lt_definitions.specs.Nameless.{Nameless}
 use Rattle.lt_definitions.specs.NamelessRules.{NamelessOutcome}
 use Rattle.lt_hol.specs.declared.line.Line.{Line}
 use Rattle.lt_store.specs.declared.node.Node.{Node}
-use Rattle.lt_store.specs.Trees.{tree_at, trees, Extends}
+use Rattle.lt_store.specs.Trees.{tree_at, Extends}
 use Rattle.lt_store.proofs.Trees.{tree_at-extends}
-use Rattle.lt_store.proofs.Lists.{trees-extends, AllBelow-wider}
+use Rattle.lt_store.proofs.Lists.{trees-extends}
 use Rattle.lt_kernel2.specs.declared.sequent.Sequent.{Sequent}
 use Rattle.lt_kernel2.specs.declared.sequent.Step.{Step}
 use Rattle.lt_kernel2.specs.Sequents.{sequent_at, sequents_at, statements_at, IsWithin, AreWithin, NamedWithin, Gives}
 use Rattle.lt_kernel2.specs.declared.rule_fault.RuleFault.{RuleFault}
 use Rattle.lt_kernel2.specs.declared.rule_fault.RuleFault.TheVariants.{Bad, Duplicate, Memory}
-use Rattle.lt_kernel2.specs.State.{State, Stays, Keeps, AddsLine, Answers}
+use Rattle.lt_kernel2.specs.State.{State, Keeps, AddsLine, Answers}
 
 sequent-extends : (old new : List Node) (s : Sequent) → Extends old new → IsWithin (length old) s → sequent_at new s ≡ sequent_at old s
 sequent-extends old new s e h =

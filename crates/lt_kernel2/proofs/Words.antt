@@ -1,5 +1,5 @@
 -- Words of ASCII characters.
-use Rattle.std.proofs.Common.{◌≡◌, ◌∙◌, ap, true, List, ℕ, zero, suc, [], ◌∷◌, arith, nat_eq}
+use Rattle.std.proofs.Common.{◌≡◌, ◌∙◌, ap, true, List, ℕ, zero, suc, [], ◌∷◌, arith}
 use Rattle.std.specs.Prelude.{chars, IsUtf8, nat_lt}
 use Rattle.std.specs.List.{list_all}
 use Rattle.std.specs.Str.{IsAscii}

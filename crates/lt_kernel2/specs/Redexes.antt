@@ -1,5 +1,5 @@
 -- The parts of abstractions and redexes.
-use Rattle.std.specs.Prelude.{ℕ, zero, Bool, true, false, Option, Some, None, if◌then◌else◌}
+use Rattle.std.specs.Prelude.{zero, Bool, true, false, Option, Some, None}
 use Rattle.lt_definitions.specs.Nameless.{Nameless, nameless_bound, nameless_application, nameless_abstraction}
 
 -- the body of an abstraction

@@ -54,7 +54,10 @@ pub fn weaken<S: TermStore>(
     }
     let more = one(alloc, p)?;
     let hyps = union(alloc, store, &from.hyps, &more)?;
-    Ok(Sequent { hyps, concl: from.concl })
+    Ok(Sequent {
+        hyps,
+        concl: from.concl,
+    })
 }
 
 /// `|-` the statement of the label
@@ -70,5 +73,8 @@ pub fn thm<S: TermStore>(
     let Some(concl) = named.get(label).copied() else {
         return Err(RuleFault::Bad(Reason::UnknownLabel));
     };
-    Ok(Sequent { hyps: Ids::new(alloc), concl })
+    Ok(Sequent {
+        hyps: Ids::new(alloc),
+        concl,
+    })
 }

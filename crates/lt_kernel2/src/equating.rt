@@ -29,7 +29,10 @@ pub fn refl<S: TermStore>(
 {
     let ty = type_of(alloc, store, sig, t)?;
     let concl = mk_equation(alloc, store, ty, t, t)?;
-    Ok(Sequent { hyps: Ids::new(alloc), concl })
+    Ok(Sequent {
+        hyps: Ids::new(alloc),
+        concl,
+    })
 }
 
 /// From `H |- s = t`: `H |- t = s`
@@ -110,7 +113,10 @@ pub fn eqmp<S: TermStore>(
         return Err(RuleFault::Bad(Reason::MiddleDiffers));
     }
     let hyps = union(alloc, store, &major.hyps, &minor.hyps)?;
-    Ok(Sequent { hyps, concl: sides.right })
+    Ok(Sequent {
+        hyps,
+        concl: sides.right,
+    })
 }
 
 /// From `H |- p --> q` and `K |- q --> p`: `H, K |- p = q`

@@ -18,12 +18,7 @@ pub fn one(alloc: Global, p: Id) -> Result<Ids, Memory>
 }
 
 /// Whether two terms are alpha-equal.
-pub fn are_same<S: TermStore>(
-    alloc: Global,
-    store: &S,
-    s: Id,
-    t: Id,
-) -> Result<bool, Memory>
+pub fn are_same<S: TermStore>(alloc: Global, store: &S, s: Id, t: Id) -> Result<bool, Memory>
     requires s { s < length (S.nodes store.now) }
     requires t { t < length (S.nodes store.now) }
     ensures { IfOk result (λ same. same ≡ same_nameless (tree_at (S.nodes store.now) s) (tree_at (S.nodes store.now) t)) }
@@ -33,12 +28,7 @@ pub fn are_same<S: TermStore>(
 }
 
 /// Whether a term alpha-equal to `p` is in the list.
-fn has_term<S: TermStore>(
-    alloc: Global,
-    store: &S,
-    p: Id,
-    ids: &[Id],
-) -> Result<bool, Memory>
+fn has_term<S: TermStore>(alloc: Global, store: &S, p: Id, ids: &[Id]) -> Result<bool, Memory>
     requires p { p < length (S.nodes store.now) }
     requires ids { AllBelow (length (S.nodes store.now)) ids.now }
     ensures { IfOk result (λ yes. yes ≡ list_any (same_nameless (tree_at (S.nodes store.now) p)) (trees (S.nodes store.now) ids.now)) }
@@ -52,12 +42,7 @@ fn has_term<S: TermStore>(
 }
 
 /// The hypotheses that aren't alpha-equal to `p`.
-pub fn without<S: TermStore>(
-    alloc: Global,
-    store: &S,
-    p: Id,
-    hyps: &Ids,
-) -> Result<Ids, Memory>
+pub fn without<S: TermStore>(alloc: Global, store: &S, p: Id, hyps: &Ids) -> Result<Ids, Memory>
     requires p { p < length (S.nodes store.now) }
     requires hyps { AllBelow (length (S.nodes store.now)) hyps.now }
     ensures within { IfOk result (AllBelow (length (S.nodes store.now))) }
@@ -67,12 +52,7 @@ pub fn without<S: TermStore>(
 }
 
 /// The hypotheses that aren't alpha-equal to `p`.
-fn left_of<S: TermStore>(
-    alloc: Global,
-    store: &S,
-    p: Id,
-    hyps: &[Id],
-) -> Result<Ids, Memory>
+fn left_of<S: TermStore>(alloc: Global, store: &S, p: Id, hyps: &[Id]) -> Result<Ids, Memory>
     requires p { p < length (S.nodes store.now) }
     requires hyps { AllBelow (length (S.nodes store.now)) hyps.now }
     ensures within { IfOk result (AllBelow (length (S.nodes store.now))) }
@@ -89,12 +69,7 @@ fn left_of<S: TermStore>(
 }
 
 /// The hypotheses `hyps`, then those of `more` that aren't alpha-equal to an earlier one.
-pub fn union<S: TermStore>(
-    alloc: Global,
-    store: &S,
-    hyps: &Ids,
-    more: &Ids,
-) -> Result<Ids, Memory>
+pub fn union<S: TermStore>(alloc: Global, store: &S, hyps: &Ids, more: &Ids) -> Result<Ids, Memory>
     requires hyps { AllBelow (length (S.nodes store.now)) hyps.now }
     requires more { AllBelow (length (S.nodes store.now)) more.now }
     ensures within { IfOk result (AllBelow (length (S.nodes store.now))) }
@@ -104,12 +79,7 @@ pub fn union<S: TermStore>(
 }
 
 /// The hypotheses `hyps`, then those of `more` that aren't alpha-equal to an earlier one.
-fn joined<S: TermStore>(
-    alloc: Global,
-    store: &S,
-    hyps: Ids,
-    more: &[Id],
-) -> Result<Ids, Memory>
+fn joined<S: TermStore>(alloc: Global, store: &S, hyps: Ids, more: &[Id]) -> Result<Ids, Memory>
     requires hyps { AllBelow (length (S.nodes store.now)) hyps }
     requires more { AllBelow (length (S.nodes store.now)) more.now }
     ensures within { IfOk result (AllBelow (length (S.nodes store.now))) }

@@ -65,13 +65,7 @@ pub fn mk_eps<S: TermStore>(alloc: Global, store: &mut S, ty: Ty) -> Result<Id, 
 }
 
 /// A function applied to two arguments.
-fn mk_binary<S: TermStore>(
-    alloc: Global,
-    store: &mut S,
-    f: Id,
-    a: Id,
-    b: Id,
-) -> Result<Id, Memory>
+fn mk_binary<S: TermStore>(alloc: Global, store: &mut S, f: Id, a: Id, b: Id) -> Result<Id, Memory>
     requires f { f < length (S.nodes store.old) }
     requires a { a < length (S.nodes store.old) }
     requires b { b < length (S.nodes store.old) }
@@ -104,12 +98,7 @@ pub fn mk_equation<S: TermStore>(
 }
 
 /// `p --> q`
-pub fn mk_implies<S: TermStore>(
-    alloc: Global,
-    store: &mut S,
-    p: Id,
-    q: Id,
-) -> Result<Id, Memory>
+pub fn mk_implies<S: TermStore>(alloc: Global, store: &mut S, p: Id, q: Id) -> Result<Id, Memory>
     requires p { p < length (S.nodes store.old) }
     requires q { q < length (S.nodes store.old) }
     ensures kept { Extends (S.nodes store.old) (S.nodes store.new) }
@@ -122,12 +111,7 @@ pub fn mk_implies<S: TermStore>(
 }
 
 /// `all p`, where `p` is a predicate over a type.
-pub fn mk_for_all<S: TermStore>(
-    alloc: Global,
-    store: &mut S,
-    ty: Ty,
-    p: Id,
-) -> Result<Id, Memory>
+pub fn mk_for_all<S: TermStore>(alloc: Global, store: &mut S, ty: Ty, p: Id) -> Result<Id, Memory>
     requires { p < length (S.nodes store.old) }
     ensures kept { Extends (S.nodes store.old) (S.nodes store.new) }
     ensures made { IfOk result (λ r. r < length (S.nodes store.new)) }

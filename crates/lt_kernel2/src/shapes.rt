@@ -113,11 +113,7 @@ pub fn as_implication<S: TermStore>(store: &S, t: Id) -> Option<(Id, Id)>
 }
 
 /// The type and the predicate of a universal statement.
-pub fn as_forall<S: TermStore>(
-    alloc: Global,
-    store: &S,
-    t: Id,
-) -> Result<Option<Universal>, Memory>
+pub fn as_forall<S: TermStore>(alloc: Global, store: &S, t: Id) -> Result<Option<Universal>, Memory>
     requires { t < length (S.nodes store.now) }
     ensures parts { IfOk result (λ o. option_map (λ u. (u.ty, tree_at (S.nodes store.now) u.predicate)) o ≡ nameless_as_forall (tree_at (S.nodes store.now) t)) }
     ensures within { IfOk result (λ o. IfSome o (λ u. u.predicate < length (S.nodes store.now))) }

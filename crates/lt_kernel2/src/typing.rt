@@ -42,12 +42,7 @@ pub fn is_boolean<S: TermStore>(
 }
 
 /// The type of a term without a fault.
-pub fn type_of<S: TermStore>(
-    alloc: Global,
-    store: &S,
-    sig: &Signature,
-    t: Id,
-) -> Result<Ty, Memory>
+pub fn type_of<S: TermStore>(alloc: Global, store: &S, sig: &Signature, t: Id) -> Result<Ty, Memory>
     requires t { t < length (S.nodes store.now) }
     requires typed { nameless_fault sig.now (tree_at (S.nodes store.now) t) ≡ None }
     ensures { IfOk result (λ ty. ty ≡ nameless_type_of sig.now (tree_at (S.nodes store.now) t)) }

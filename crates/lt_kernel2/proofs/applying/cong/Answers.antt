@@ -1,4 +1,3 @@
-use Rattle.std.proofs.Common.{sym, ◌∙◌, ap}
 use Rattle.lt_kernel2.proofs.Outcomes.{gives-later}
 use Rattle.lt_kernel2.proofs.OtherOutcomes.{cong-gives}
 use Rattle.lt_kernel2.proofs.applying.cong.Goals as goal

@@ -1,4 +1,4 @@
-use Rattle.std.proofs.Common.{◌≡◌, ◌∙◌, refl, sym, ap, Option, Some, None, ℕ}
+use Rattle.std.proofs.Common.{◌≡◌, ◌∙◌, refl, sym, ap, Some, None}
 use Rattle.std.specs.Option.{option_map}
 use Rattle.lt_definitions.specs.Types.{found}
 use Rattle.lt_store.specs.Trees.{tree_at, trees}

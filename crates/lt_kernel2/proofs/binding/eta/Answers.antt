@@ -1,4 +1,4 @@
-use Rattle.std.proofs.Common.{sym, ◌∙◌, ap, []}
+use Rattle.std.proofs.Common.{sym, ◌∙◌, ap}
 use Rattle.lt_store.specs.Trees.{trees}
 use Rattle.lt_store.proofs.Trees.{tree_at-extends, extends_on}
 use Rattle.lt_store.proofs.Lists.{AllBelow-none}

@@ -1,5 +1,5 @@
-use Rattle.std.proofs.Common.{ap, List, ℕ, length}
-use Rattle.lt_store.specs.Trees.{trees, AllBelow}
+use Rattle.std.proofs.Common.{ap}
+use Rattle.lt_store.specs.Trees.{trees}
 use Rattle.lt_kernel2.proofs.Outcomes.{gives-later, sym-gives}
 use Rattle.lt_kernel2.proofs.equating.sym.Goals as goal
 

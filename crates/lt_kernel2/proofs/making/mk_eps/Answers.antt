@@ -1,4 +1,4 @@
-use Rattle.std.proofs.Common.{◌∙◌, ◌∷◌, []}
+use Rattle.std.proofs.Common.{◌∙◌}
 use Rattle.lt_definitions.specs.Nameless.{nameless_constant}
 use Rattle.lt_types.proofs.Words.{eps-word, eps-chars}
 use Rattle.lt_kernel2.proofs.making.mk_eps.Goals as goal

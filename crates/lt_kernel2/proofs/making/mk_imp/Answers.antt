@@ -1,4 +1,4 @@
-use Rattle.std.proofs.Common.{◌≡◌, ◌∙◌, ◌∷◌, [], codes}
+use Rattle.std.proofs.Common.{◌≡◌, ◌∙◌, [], codes}
 use Rattle.lt_definitions.specs.Nameless.{nameless_constant}
 use Rattle.lt_types.proofs.Words.{imp-word, imp-chars}
 use Rattle.lt_kernel2.proofs.making.mk_imp.Goals as goal

@@ -3,7 +3,7 @@ use Rattle.lt_definitions.specs.Types.{Chars, found}
 use Rattle.lt_hol.proofs.Lookups.{inserted-new, none-found}
 use Rattle.lt_kernel2.specs.State.{State}
 use Rattle.lt_kernel2.specs.Sequents.{NamedWithin}
-use Rattle.lt_kernel2.proofs.States.{state, named-push}
+use Rattle.lt_kernel2.proofs.States.{named-push}
 use Rattle.lt_kernel2.proofs.proof.Proof.add_statement.Goals as goal
 
 pub invariant_of-self-2 : goal.invariant_of-self-2
@@ -15,15 +15,14 @@ invariant_of-self-2 g c =
     record {
       steps = c.self.invariant.steps;
       named = subst (λ (es : List (Chars × ℕ)). NamedWithin (length ns) es) (sym is)
-        (named-push (length ns) inside.named.entries (c.args.label, c.args.statement) c.self.invariant.named (subst (λ (s : State). c.args.statement < length s.nodes) (sym c.self.view_is) c.requires));
+          (named-push (length ns) inside.named.entries (c.args.label, c.args.statement) c.self.invariant.named (subst (λ (s : State). c.args.statement < length s.nodes) (sym c.self.view_is) c.requires));
     }
 
 pub returns : goal.returns
 returns g c =
     let inside = c.self.inside in
     let absent : is_some (found c.args.label inside.named.entries) ≡ false = sym c.is_named.ensures ∙ c.if-is_named.false in
-    let is : c.insert.new.self.entries ≡ inside.named.entries ++ (c.args.label, c.args.statement) ∷ [] = c.in_ok-insert.ensures.entries ∙ inserted-new c.args.label c.args.statement inside.named.entries absent in
-    (
+    let is : c.insert.new.self.entries ≡ inside.named.entries ++ (c.args.label, c.args.statement) ∷ [] = c.in_ok-insert.ensures.entries ∙ inserted-new c.args.label c.args.statement inside.named.entries absent in (
       none-found (found c.args.label c.args.self.now.named) (ap (λ (s : State). is_some (found c.args.label s.named)) (sym c.self.view_is) ∙ absent),
       λ i. record {
         nodes = ap (λ (s : State). s.nodes) c.self.view_is i;

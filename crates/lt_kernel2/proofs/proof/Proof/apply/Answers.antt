@@ -1,8 +1,6 @@
-use Rattle.std.proofs.Common.{◌≡◌, ◌++◌, ◌∷◌, [], ◌∙◌, List, ℕ, Result, ap, subst, sym, length, refl, rules, Ok, Err}
+use Rattle.std.proofs.Common.{◌≡◌, ◌++◌, ◌∷◌, [], ◌∙◌, List, ap, subst, sym, length, refl, Ok, Err}
 use Rattle.lt_definitions.specs.NamelessRules.{nameless_step}
 use Rattle.lt_kernel2.specs.declared.sequent.Step.{Step}
-use Rattle.lt_kernel2.specs.declared.rule_fault.RuleFault.{RuleFault}
-use Rattle.lt_kernel2.specs.declared.rule_fault.RuleFault.TheVariants.{Memory}
 use Rattle.lt_kernel2.specs.Lines.{rule_at}
 use Rattle.lt_kernel2.specs.Sequents.{sequents_at, statements_at, Gives}
 use Rattle.lt_kernel2.specs.State.{State, Keeps, AddsLine, Answers, step_of}
