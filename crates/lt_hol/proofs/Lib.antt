@@ -9,3 +9,6 @@ pub mod BinderPasses
 pub mod NodeEquality
 pub mod DistinctTypes
 pub mod TypeNumbers
+pub mod VariableNames
+pub mod ReadTypes
+pub mod TypingSteps

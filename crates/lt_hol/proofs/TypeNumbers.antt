@@ -80,7 +80,7 @@ below-take n k xs h = (below-parts n k xs h).0
 pub below-drop : (n k : ℕ) (xs : List ℕ) → all_below n xs ≡ true → all_below n (drop k xs) ≡ true
 below-drop n k xs h = (below-parts n k xs h).1
 
-extends-length : (old new : List TypeTree) → Extends old new → length old ≤ length new
+pub extends-length : (old new : List TypeTree) → Extends old new → length old ≤ length new
 extends-length old new e = omega (arith, ap length e.is, length-append old e.more)
 
 pub numbers-later : (old new : List TypeTree) (ids : List ℕ) (types : List TypeTree) → Extends old new → AreNumbers old ids types → AreNumbers new ids types

@@ -8,3 +8,6 @@ pub mod FreeNodes
 pub mod BoundNames
 pub mod Scopes
 pub mod TypeTables
+pub mod Instances
+pub mod Makings
+pub mod Outcomes

@@ -1,14 +1,18 @@
 //! Names, types, terms and signatures of higher-order logic.
 #![tactic(auto)]
 
+mod binder_types;
 mod bound_names;
 mod check_type;
 mod form_part;
+mod instance;
 mod item;
 mod line;
 mod lines;
+mod outcome;
 mod pending;
 mod property;
+mod read_type;
 mod reason;
 mod replacing;
 mod scope;
@@ -17,6 +21,8 @@ mod term;
 mod term_builder;
 mod type_fault;
 mod type_table;
+mod type_variables;
+mod typing;
 
 pub use bound_names::{Binder, binders};
 pub use form_part::{PropertyPart, QuotientPart, RelatorPart, RulePart};

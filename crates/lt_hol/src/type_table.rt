@@ -54,6 +54,15 @@ impl TypeTable {
         self.nodes.len()
     }
 
+    /// The node of a number. Its arguments are lower numbers.
+    pub fn node(&self, id: usize) -> &TyNode
+        requires { id < length self.now }
+        ensures made { type_at self.now id ≡ made_of self.now result.now }
+        ensures below { is_below id result.now ≡ true }
+    {
+        &self.nodes[id]
+    }
+
     /// The number of the type that a node makes, whose arguments are numbers of the table.
     pub(crate) fn add(&mut self, node: TyNode) -> Result<usize, Memory>
         requires { is_below (length self.old) node ≡ true }
@@ -96,7 +105,7 @@ impl TypeTable {
     }
 
     /// Puts the number of what a node makes of the last types in the place of their numbers.
-    fn put(
+    pub(crate) fn put(
         &mut self,
         alloc: Global,
         numbers: Vec<usize>,
