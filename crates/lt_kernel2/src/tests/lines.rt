@@ -1,0 +1,166 @@
+//! Lines from short texts, and what they give.
+ghost use Rattle.std.specs.Prelude.{◌≡◌, ◌<◌, length, None, IfOk};
+ghost use Rattle.lt_definitions.specs.Typing.{type_fault};
+ghost use Rattle.lt_definitions.specs.NamelessRules.{nameless_fault};
+ghost use Rattle.lt_store.specs.Trees.{tree_at};
+
+use crate::tests::machine::{name, parts, plain_type, terms};
+use crate::{Proof, RuleFault};
+use lt_hol::{Name, Reason, Signature, Term, Ty};
+use lt_store::{Id, PlainStore, TermStore};
+use std::alloc::Global;
+use std::test::Fail;
+
+/// A line of a derivation: its rule, its name, a text of its type and its term, and its earlier lines.
+/// What the rule doesn't ask for is left out of the text, or is not looked at.
+pub type Given<'a> = (&'a str, &'a str, &'a str, usize, usize);
+
+/// A proof over the type `nat` and the constants `p`, `q`, `z` and `s`.
+pub fn declared<S: TermStore + Drop>(alloc: Global, store: S) -> Result<Proof<S>, Fail> {
+    let mut proof = Proof::new(alloc, Signature::new(alloc)?, store);
+    proof.add_type(alloc, name(alloc, "nat")?, 0)?;
+    for (text, ty) in [("p", "bool"), ("q", "bool"), ("z", "nat")] {
+        proof.add_const(alloc, name(alloc, text)?, plain_type(alloc, ty)?)?;
+    }
+    let ty = Ty::fun(alloc, plain_type(alloc, "nat")?, plain_type(alloc, "nat")?)?;
+    proof.add_const(alloc, name(alloc, "s")?, ty)?;
+    Ok(proof)
+}
+
+/// The id of a term, which has no fault.
+pub fn put<S: TermStore + Drop>(
+    alloc: Global,
+    proof: &mut Proof<S>,
+    term: &Term,
+) -> Result<Id, Fail>
+    ensures within { IfOk result (λ t. t < length proof.new.nodes) }
+    ensures typed { IfOk result (λ t. nameless_fault proof.new.signature (tree_at proof.new.nodes t) ≡ None) }
+{
+    proof.signature().type_of(alloc, term)?;
+    Ok(proof.add_term(alloc, term)?)
+}
+
+/// What a line gives.
+pub fn derive<S: TermStore + Drop>(
+    alloc: Global,
+    proof: &mut Proof<S>,
+    given: Given<'_>,
+) -> Result<Result<usize, RuleFault>, Fail> {
+    let (rule, text, words, i, j) = given;
+    let x = name(alloc, text)?;
+    let (ty, term) = parts(alloc, words)?;
+    let t = put(alloc, proof, &term)?;
+    proof.signature().check_type(alloc, &ty)?;
+    Ok(call(alloc, proof, rule, x, ty, t, i, j))
+}
+
+/// The call of a rule's name.
+fn call<S: TermStore + Drop>(
+    alloc: Global,
+    proof: &mut Proof<S>,
+    rule: &str,
+    x: Name,
+    ty: Ty,
+    t: Id,
+    i: usize,
+    j: usize,
+) -> Result<usize, RuleFault>
+    requires ty { type_fault proof.old.signature ty ≡ None }
+    requires t { t < length proof.old.nodes }
+    requires typed { nameless_fault proof.old.signature (tree_at proof.old.nodes t) ≡ None }
+{
+    match rule {
+        "assume" => proof.assume(alloc, t),
+        "weaken" => proof.weaken(alloc, t, i),
+        "refl" => proof.refl(alloc, t),
+        "sym" => proof.sym(alloc, i),
+        "trans" => proof.trans(alloc, i, j),
+        "cong" => proof.cong(alloc, i, j),
+        "abs" => proof.abs(alloc, x, ty, i),
+        "beta" => proof.beta(alloc, t),
+        "eta" => proof.eta(alloc, t),
+        "eqmp" => proof.eqmp(alloc, i, j),
+        "impI" => proof.impI(alloc, t, i),
+        "mp" => proof.mp(alloc, i, j),
+        "allI" => proof.allI(alloc, x, ty, i),
+        "allE" => proof.allE(alloc, t, i),
+        "iff" => proof.iff(alloc, i, j),
+        "inst" => proof.inst(alloc, x, ty, t, i),
+        "tinst" => proof.tinst(alloc, x, ty, i),
+        "select" => proof.select(alloc, t),
+        "ccontr" => proof.ccontr(alloc, t),
+        _ => proof.thm(alloc, x),
+    }
+}
+
+/// Whether a line has the hypotheses and, last, the conclusion of a text.
+pub fn gives<S: TermStore + Drop>(
+    alloc: Global,
+    proof: &mut Proof<S>,
+    number: usize,
+    text: &str,
+) -> Result<bool, Fail> {
+    let mut ids = Vec::new(alloc);
+    for term in &terms(alloc, text)? {
+        ids.push(put(alloc, proof, term)?)?;
+    }
+    let Some(concl) = ids.pop() else {
+        return Err("no conclusion".into());
+    };
+    is_sequent(alloc, proof, number, ids.as_slice(), concl)
+}
+
+/// Whether a line has these hypotheses and this conclusion.
+fn is_sequent<S: TermStore + Drop>(
+    alloc: Global,
+    proof: &Proof<S>,
+    number: usize,
+    hyps: &[Id],
+    concl: Id,
+) -> Result<bool, Fail> {
+    let Some(sequent) = proof.sequent(number) else {
+        return Ok(false);
+    };
+    if sequent.hyps.len() != hyps.len() {
+        return Ok(false);
+    }
+    for k in 0..hyps.len() {
+        if !same(alloc, proof, *sequent.hyps.at(k), hyps[k])? {
+            return Ok(false);
+        }
+    }
+    same(alloc, proof, sequent.concl, concl)
+}
+
+/// Whether two ids stand for one term.
+pub fn same<S: TermStore + Drop>(
+    alloc: Global,
+    proof: &Proof<S>,
+    a: Id,
+    b: Id,
+) -> Result<bool, Fail> {
+    if a >= proof.len() || b >= proof.len() {
+        return Err("no term".into());
+    }
+    Ok(proof.same(alloc, a, b)?)
+}
+
+/// The reason for which a line was refused.
+pub fn reason(answer: Result<usize, RuleFault>) -> Option<Reason> {
+    match answer {
+        Err(RuleFault::Bad(reason)) => Some(reason),
+        _ => None,
+    }
+}
+
+/// A proof whose lines are given. Each has to give a sequent.
+pub fn derivation(
+    alloc: Global,
+    proof: &mut Proof<PlainStore>,
+    lines: &[Given<'_>],
+) -> Result<(), Fail> {
+    for given in lines {
+        derive(alloc, proof, *given)??;
+    }
+    Ok(())
+}
