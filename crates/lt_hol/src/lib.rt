@@ -33,6 +33,7 @@ pub use lt_types::{
     Ids, List, Memory, Name, Names, TryCopy, Ty, TyBuilder, TyMap, TyNode, Tys, is_name,
     match_type, tsub,
 };
+pub use outcome::Outcome;
 pub use property::Property;
 pub use reason::Reason;
 pub use replacing::subst_free;
@@ -41,6 +42,7 @@ pub use term::{Term, TermNode};
 pub use term_builder::TermBuilder;
 pub use type_fault::TypeFault;
 pub use type_table::TypeTable;
+pub use typing::applied_types;
 
 /// A list of terms.
 pub type Terms = List<Term>;

@@ -81,7 +81,7 @@ impl Signature {
     }
 
     /// What is known of a thing that has a given type.
-    fn of_type(&self, alloc: Global, table: &mut TypeTable, ty: &Ty) -> Result<Outcome, Memory>
+    pub fn of_type(&self, alloc: Global, table: &mut TypeTable, ty: &Ty) -> Result<Outcome, Memory>
         ensures outcome { IfOk result (λ o. IsOutcome table.new o (unless (type_fault self.now ty.now) (Fine ty.now))) }
         ensures grows { Extends table.old table.new }
     {
@@ -92,7 +92,7 @@ impl Signature {
     }
 
     /// What is known of a constant.
-    fn of_constant(
+    pub fn of_constant(
         &self,
         alloc: Global,
         table: &mut TypeTable,
@@ -305,7 +305,7 @@ fn applied_at(table: &TypeTable, t: usize, argument: Outcome) -> Outcome
 }
 
 /// What is known of an application of a function of a type to an argument of another.
-fn applied_types(table: &TypeTable, t: usize, u: usize) -> Outcome
+pub fn applied_types(table: &TypeTable, t: usize, u: usize) -> Outcome
     requires function { t < length table.now }
     requires argument { u < length table.now }
     ensures { IsOutcome table.now result (applied_type (type_at table.now t) (type_at table.now u)) }

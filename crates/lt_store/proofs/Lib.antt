@@ -8,3 +8,5 @@ pub mod Lists
 pub mod StoredTerms
 pub mod TypeNumbers
 pub mod TypeTasks
+pub mod BinderNames
+pub mod NameTasks

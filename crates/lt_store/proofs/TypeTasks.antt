@@ -202,8 +202,12 @@ module _ (sig : Signature) (ns : List Node) where
             found = λ j e q at. found-on ts new j e q k (now.found j e q at);
             due = (
               record { within = omega (arith, place.within); tells = tells; whole = part },
-              (place-on ts new now.tys i c k place, record { ty = ty; binders = refl; right = right; stands = stands; tells = tells }, inr (inl refl),
-              due-on ts new m m (root, base) ((i, c) ∷ []) ((i, c) ∷ (b, d) ∷ []) now.tys rest k on now.due.1),
+              (
+                place-on ts new now.tys i c k place,
+                record { ty = ty; binders = refl; right = right; stands = stands; tells = tells },
+                inr (inl refl),
+                due-on ts new m m (root, base) ((i, c) ∷ []) ((i, c) ∷ (b, d) ∷ []) now.tys rest k on now.due.1,
+              ),
             );
             first = now.first ∙ ap (λ (t : Nameless). earlier (fault_of (nameless_typed sig now.tys t)) (faults sig ns now.tys rest)) stands
                 ∙ abstraction-faults (type_fault sig ty) ty (nameless_typed sig (ty ∷ now.tys) (tree_at ns b)) (faults sig ns now.tys rest) right

@@ -7,3 +7,4 @@ pub mod Tasks
 pub mod Stacks
 pub mod TypeNumbers
 pub mod TypeTasks
+pub mod NameTasks

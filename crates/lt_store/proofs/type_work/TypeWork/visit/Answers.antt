@@ -47,7 +47,7 @@ pub returns-in_ok-keep-in-Ok-constant_number : goal.returns-in_ok-keep-in-Ok-con
 returns-in_ok-keep-in-Ok-constant_number g c root base now =
     let sig = c.args.sig.now in (
       visit_found _ _ _ _ _ c.args.self.now.found _ _ _ _ now _ c.keep-in-Ok-constant_number.new.memo _ _ c.constant_number.ensures.kept (ap (nameless_typed sig now.tys) c.in-Const.ensures.stands) c.in-Ok-constant_number.ensures.is
-      c.in_ok-keep-in-Ok-constant_number.ensures,
+          c.in_ok-keep-in-Ok-constant_number.ensures,
       lighter_visit _ c.args.id _,
     )
 
