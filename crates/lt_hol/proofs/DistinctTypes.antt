@@ -1,16 +1,16 @@
 -- Types by number, in a table in which no node stands twice.
-use Rattle.std.proofs.Common.{◌≡◌, ℕ, zero, suc, ◌+◌, ◌<◌, ◌≤◌, List, [], ◌∷◌, ◌++◌, length, map, get_or, slice_get, Option, Some, None, Bool, true, false, nat_lt, refl, ap, sym, ◌∙◌, subst, arith, length-append, append_assoc, append-nil, if◌then◌else◌, ◌⊎◌, inl, inr}
-use Rattle.std.specs.List.{list_all, list_any}
-use Rattle.std.proofs.lemmas.Bool.{cases_lt, false≢true, true≢false, ltb-true, lt-ltb}
+use Rattle.std.proofs.Common.{◌≡◌, ℕ, zero, suc, ◌+◌, ◌<◌, ◌≤◌, List, [], ◌∷◌, ◌++◌, length, get_or, slice_get, Some, Bool, true, false, nat_lt, refl, ap, sym, ◌∙◌, subst, arith, length-append, append_assoc, append-nil, if◌then◌else◌, ◌⊎◌, inl, inr}
+use Rattle.std.specs.List.{list_any}
+use Rattle.std.proofs.lemmas.Bool.{cases_lt, true≢false, ltb-true, lt-ltb}
 use Rattle.std.proofs.lemmas.List.{get_or_append_left}
 use Rattle.std.proofs.lemmas.List.Folds.{list_any_at}
 use Rattle.std.proofs.Math.Seq.{get_or-append_seam}
-use Rattle.std.proofs.lemmas.Option.{same_Some, none-some, slice_get-get_or, get_or_from_slice_get, slice_get_within}
+use Rattle.std.proofs.lemmas.Option.{same_Some, none-some, slice_get-get_or, slice_get_within}
 use Rattle.lt_types.specs.declared.ty.TyNode.{TyNode}
 use Rattle.lt_types.specs.declared.ty.TyNode.TheVariants.{Var, Con}
-use Rattle.lt_definitions.specs.Types.{Chars, same_name, TypeTree, TypeTrees, type_variable, type_constructor, row, listed}
+use Rattle.lt_definitions.specs.Types.{TypeTree, type_variable, type_constructor, row, listed}
 use Rattle.lt_definitions.proofs.Tests.{listed-row, both-true, true-both}
-use Rattle.lt_hol.specs.TypeTables.{type_at, types_at, made_of, types_after, all_below, is_below, IsGrounded, IsApart, IsTable, Extends}
+use Rattle.lt_hol.specs.TypeTables.{type_at, types_at, made_of, types_after, all_below, is_below, IsGrounded, IsApart, Extends}
 
 pub types_after-append : (ts : List TypeTree) (ms ns : List TyNode) → types_after ts (ms ++ ns) ≡ types_after (types_after ts ms) ns
 types_after-append ts [] ns = refl

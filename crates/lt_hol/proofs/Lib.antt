@@ -1,4 +1,4 @@
-pub mod Nodes
+pub mod TermNodes
 pub mod Stacks
 pub mod Lookups
 pub mod TypeFaults
@@ -11,4 +11,15 @@ pub mod DistinctTypes
 pub mod TypeNumbers
 pub mod VariableNames
 pub mod ReadTypes
+pub mod BinderLengths
+pub mod NewNames
+pub mod LongNames
+pub mod Signs
+pub mod OpenNodes
+pub mod SharedTrees
+pub mod NodeInstances
+pub mod TermPlaces
+pub mod NumberedNames
+pub mod DigitNames
 pub mod TypingSteps
+pub mod NodeCounts

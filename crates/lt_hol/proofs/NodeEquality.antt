@@ -1,5 +1,5 @@
 -- `==` of the nodes of types decides whether they are one.
-use Rattle.std.proofs.Common.{◌≡◌, ℕ, List, [], ◌∷◌, Bool, true, false, refl, ap, sym, ◌∙◌, ◌&&◌, arith, nat_eq}
+use Rattle.std.proofs.Common.{◌≡◌, true, ap, nat_eq}
 use Rattle.std.specs.Cmp.Lexicographic.{pointwise, bytes_decides}
 use Rattle.std.proofs.lemmas.Bool.{false≢true}
 use Rattle.lt_definitions.proofs.Tests.{both-true}

@@ -1,12 +1,12 @@
 -- A type is read back from its number.
-use Rattle.std.proofs.Common.{◌≡◌, ℕ, zero, suc, ◌+◌, ◌-◌, ◌*◌, ◌<◌, ◌≤◌, List, [], ◌∷◌, ◌++◌, length, map, take, drop, reverse, get_or, true, nat_lt, refl, ap, sym, ◌∙◌, subst, arith, append_assoc, append-nil, length-append}
+use Rattle.std.proofs.Common.{◌≡◌, ℕ, ◌+◌, ◌-◌, ◌*◌, ◌<◌, ◌≤◌, List, [], ◌∷◌, ◌++◌, length, take, drop, reverse, true, nat_lt, refl, ap, sym, ◌∙◌, subst, arith, append_assoc, append-nil, length-append}
 use Rattle.std.proofs.lemmas.Bool.{ltb-true}
 use Rattle.std.proofs.lemmas.List.{length-map, reverse-append}
-use Rattle.std.proofs.Math.Seq.{take-append_seam, drop-cons}
+use Rattle.std.proofs.Math.Seq.{take-append_seam}
 use Rattle.lt_types.specs.declared.ty.TyNode.{TyNode}
 use Rattle.lt_types.specs.declared.ty.TyNode.TheVariants.{Var, Con}
-use Rattle.lt_types.specs.Layout.{grow, HasRoom, below, sizes, type_size}
-use Rattle.lt_definitions.specs.Types.{Chars, TypeTree, type_variable, type_constructor, row, listed}
+use Rattle.lt_types.specs.Layout.{grow, HasRoom, sizes, type_size}
+use Rattle.lt_definitions.specs.Types.{TypeTree, type_variable, type_constructor, row, listed}
 use Rattle.lt_definitions.proofs.Tests.{listed-row, both-true}
 use Rattle.lt_hol.specs.declared.read_type.Making.{Making}
 use Rattle.lt_hol.specs.declared.read_type.Making.TheVariants.{Whole, Root}

@@ -6,7 +6,7 @@ use Rattle.lt_hol.specs.declared.term.TermNode.TheVariants.{Free, Bound, Const, 
 use Rattle.lt_definitions.specs.Types.{Chars, TypeTree}
 use Rattle.lt_definitions.specs.Terms.{TermTree, free_variable, bound_name, constant, application, abstraction}
 use Rattle.lt_hol.specs.Layout.{under, term_size, term_nodes, grow, applied, abstracted, IsLeaf, forest, sizes, stacked, roots, IsStack}
-use Rattle.lt_hol.proofs.Nodes.{length-term_nodes, forest-term_nodes}
+use Rattle.lt_hol.proofs.TermNodes.{length-term_nodes, forest-term_nodes}
 
 pub length-stacked : (ts : List TermTree) → length (stacked ts) ≡ sizes ts
 length-stacked [] = refl

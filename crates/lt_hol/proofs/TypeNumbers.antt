@@ -1,7 +1,6 @@
 -- What is made of numbers of a table of types.
-use Rattle.std.proofs.Common.{◌≡◌, ℕ, zero, suc, ◌+◌, ◌-◌, ◌<◌, ◌≤◌, List, [], ◌∷◌, ◌++◌, length, map, take, drop, slice_get, get_or, Option, Some, None, Bool, true, false, nat_lt, codes, refl, ap, sym, ◌∙◌, subst, arith, length-append, if◌then◌else◌, IfSome}
+use Rattle.std.proofs.Common.{◌≡◌, ℕ, ◌-◌, ◌<◌, ◌≤◌, List, [], ◌∷◌, ◌++◌, length, take, drop, slice_get, get_or, Option, Some, None, Bool, true, false, nat_lt, codes, refl, ap, sym, ◌∙◌, subst, arith, length-append, if◌then◌else◌, IfSome}
 use Rattle.std.specs.Option.{option_map}
-use Rattle.std.specs.List.{list_all}
 use Rattle.std.proofs.lemmas.Bool.{ltb-true, lt-ltb}
 use Rattle.std.proofs.lemmas.List.{length-map, take-map, drop-map, map-append, take-append-drop}
 use Rattle.std.proofs.lemmas.List.Folds.{list_all-append}
@@ -11,8 +10,8 @@ use Rattle.lt_types.specs.declared.ty.TyNode.TheVariants.{Var, Con}
 use Rattle.lt_types.specs.Layout.{grow}
 use Rattle.lt_definitions.specs.Types.{Chars, same_name, TypeTree, type_variable, type_constructor, row}
 use Rattle.lt_definitions.proofs.Tests.{both-true, true-both}
-use Rattle.lt_hol.specs.TypeTables.{type_at, types_at, made_of, types_after, all_below, is_below, IsTable, Extends, function_parts, node_parts, both}
-use Rattle.lt_hol.proofs.DistinctTypes.{types_at-more, all-more, type_at-node, below-whole}
+use Rattle.lt_hol.specs.TypeTables.{type_at, types_at, made_of, all_below, is_below, IsTable, Extends, function_parts, node_parts, both}
+use Rattle.lt_hol.proofs.DistinctTypes.{types_at-more, all-more}
 
 pub empty-table : (ns : List TyNode) (name : Chars) → ns ≡ [] → name ≡ codes "fun" → IsTable ns name
 empty-table ns name e n = subst (λ ms. IsTable ms name) (sym e) (record { grounded = tt; apart = λ i j h k. absurd (omega (arith, h)); named = n })

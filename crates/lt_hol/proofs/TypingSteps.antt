@@ -1,11 +1,10 @@
 -- What is known of terms, as a table of types grows.
-use Rattle.std.proofs.Common.{◌≡◌, ℕ, zero, suc, ◌+◌, ◌<◌, ◌≤◌, List, [], ◌∷◌, ◌++◌, length, map, take, drop, reverse, get_or, slice_get, Option, Some, None, Result, Ok, Err, Bool, true, false, nat_eq, nat_lt, codes, refl, ap, sym, ◌∙◌, subst, arith, if◌then◌else◌, ◌&&◌, ◌⊎◌, inl, inr, append_assoc, append-nil, length-append}
-use Rattle.std.specs.Option.{option_map}
+use Rattle.std.proofs.Common.{◌≡◌, ℕ, zero, suc, ◌+◌, ◌<◌, ◌≤◌, List, [], ◌∷◌, ◌++◌, length, map, take, drop, reverse, get_or, slice_get, Option, Some, None, Result, Ok, Err, Bool, true, false, nat_eq, codes, refl, ap, sym, ◌∙◌, subst, arith, if◌then◌else◌, ◌&&◌, inl, inr, append_assoc, append-nil, length-append}
 use Rattle.std.proofs.lemmas.Option.{slice_get_within, get_or_from_slice_get}
 use Rattle.std.proofs.lemmas.List.{reverse-append, length-reverse, take_more, map-append, length-map}
 use Rattle.std.proofs.lemmas.Bool.{true≢false}
 use Rattle.std.proofs.Math.Seq.{drop-cons, take-length, get_or-append_seam}
-use Rattle.lt_definitions.specs.Types.{Chars, same_name, TypeTree, TypeTrees, type_variable, type_constructor, no_types, type_and, row, fun, same_type, found, type_variables}
+use Rattle.lt_definitions.specs.Types.{Chars, same_name, TypeTree, type_variable, type_constructor, no_types, type_and, row, same_type, found, type_variables}
 use Rattle.lt_definitions.specs.Typing.{Signature, Fault, unknown_type, arity, unknown_const, type_args, unbound, mismatch, with_ok, unless, applied_type, type_fault, types_fault, earlier, at_types, constant_type, typed}
 use Rattle.lt_definitions.specs.Terms.{TermTree, free_variable, bound_name, constant, application, abstraction}
 use Rattle.lt_definitions.proofs.Tests.{bool_cases, type-true, true-type}
@@ -13,14 +12,14 @@ use Rattle.lt_hol.specs.declared.outcome.Outcome.{Outcome}
 use Rattle.lt_hol.specs.declared.outcome.Outcome.TheVariants.{Known, Mismatch, Wrong}
 use Rattle.lt_hol.specs.declared.type_fault.TypeFault.{TypeFault}
 use Rattle.lt_hol.specs.declared.type_fault.TypeFault.TheVariants.{Duplicate, UnknownType, Arity, UnknownConst, TypeArgs, Unbound, Mismatch as MismatchFault, Memory}
-use Rattle.lt_hol.specs.Faults.{Finds, Checks, Gives, fault_of}
-use Rattle.lt_hol.specs.Outcomes.{Typed, IsOutcome, AreOutcomes, IsWithin, AreWithin, IsHint, AreHints, binder_type, at_binder, bound_types, typed_step, applied_outcomes, abstracted_outcomes}
+use Rattle.lt_hol.specs.Faults.{Finds, fault_of}
+use Rattle.lt_hol.specs.Outcomes.{Typed, IsOutcome, AreOutcomes, IsWithin, AreWithin, IsHint, AreHints, binder_type, at_binder, bound_types, typed_step}
 use Rattle.lt_hol.specs.declared.bound_names.Binder.{Binder}
 use Rattle.lt_hol.specs.declared.term.TermNode.{TermNode}
-use Rattle.lt_hol.specs.declared.term.TermNode.TheVariants.{Free, Bound, Const, App, Lam}
+use Rattle.lt_hol.specs.declared.term.TermNode.TheVariants.{App, Lam}
 use Rattle.lt_hol.specs.Layout.{under, term_nodes}
 use Rattle.lt_hol.specs.BoundNames.{Places, binder_of, further, binders_in}
-use Rattle.lt_hol.proofs.Nodes.{length-term_nodes}
+use Rattle.lt_hol.proofs.TermNodes.{length-term_nodes}
 use Rattle.lt_hol.specs.TypeTables.{type_at, Extends, function_parts}
 use Rattle.lt_hol.proofs.DistinctTypes.{type_at-more}
 use Rattle.lt_hol.proofs.TypeNumbers.{extends-length, AreNumbers, numbers-more}

@@ -1,16 +1,15 @@
 -- The variables of a type, read off its nodes, and the numbers that are put for them.
-use Rattle.std.proofs.Common.{◌≡◌, ℕ, zero, suc, ◌+◌, ◌<◌, ◌≤◌, List, [], ◌∷◌, ◌++◌, length, map, take, drop, get_or, slice_get, Option, Some, None, Bool, true, false, nat_lt, refl, ap, sym, ◌∙◌, subst, arith, append_assoc, append-nil, if◌then◌else◌, position, unwrap_or, cond}
+use Rattle.std.proofs.Common.{◌≡◌, ℕ, suc, ◌+◌, ◌<◌, List, [], ◌∷◌, ◌++◌, length, map, drop, slice_get, Option, Some, None, Bool, true, false, nat_lt, refl, ap, sym, ◌∙◌, subst, arith, append_assoc, append-nil, if◌then◌else◌, position, unwrap_or, cond}
 use Rattle.std.specs.Option.{option_map, option_and_then, ForSome}
 use Rattle.std.specs.List.{zip, position_from}
 use Rattle.std.proofs.lemmas.Iterator.Adapters.{position_from-zero}
 use Rattle.std.proofs.lemmas.Bool.{ltb-true}
-use Rattle.std.proofs.lemmas.List.{map-append, length-map}
-use Rattle.std.proofs.Math.Seq.{drop-cons}
+use Rattle.std.proofs.lemmas.List.{map-append}
 use Rattle.lt_types.specs.declared.ty.TyNode.{TyNode}
 use Rattle.lt_types.specs.declared.ty.TyNode.TheVariants.{Var, Con}
 use Rattle.lt_types.specs.Layout.{type_nodes, row_nodes, roots, below, grow}
 use Rattle.lt_types.proofs.Substitutions.{grow-type_instance}
-use Rattle.lt_definitions.specs.Types.{Chars, same_name, has_name, names_joined, found, TypeTree, TypeTrees, type_variable, type_constructor, no_types, type_and, type_names, types_names, type_variables, type_instance}
+use Rattle.lt_definitions.specs.Types.{Chars, same_name, names_joined, found, TypeTree, TypeTrees, type_variable, type_constructor, no_types, type_and, type_names, types_names, type_variables, type_instance}
 use Rattle.lt_definitions.proofs.Tests.{both-true}
 use Rattle.lt_hol.specs.TypeTables.{type_at, types_at, all_below, Extends}
 use Rattle.lt_hol.proofs.DistinctTypes.{types_at-more}

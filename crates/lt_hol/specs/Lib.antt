@@ -10,4 +10,11 @@ pub mod Scopes
 pub mod TypeTables
 pub mod Instances
 pub mod Makings
+pub mod NodeNames
+pub mod AlikeNodes
+pub mod Openings
+pub mod Tasks
+pub mod TypeInstances
+pub mod Numberings
 pub mod Outcomes
+pub mod Counts

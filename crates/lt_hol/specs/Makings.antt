@@ -3,7 +3,7 @@ use Rattle.std.specs.Prelude.{ℕ, List, [], ◌∷◌}
 use Rattle.lt_types.specs.declared.ty.TyNode.{TyNode}
 use Rattle.lt_types.specs.declared.ty.TyNode.TheVariants.{Var, Con}
 use Rattle.lt_hol.specs.declared.read_type.Making.{Making}
-use Rattle.lt_hol.specs.declared.read_type.Making.TheVariants.{Whole, Root}
+use Rattle.lt_hol.specs.declared.read_type.Making.TheVariants.{Whole}
 
 -- the numbers of a node's arguments
 abbrev pub numbers_of : TyNode → List ℕ

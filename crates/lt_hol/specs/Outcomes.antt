@@ -1,5 +1,5 @@
 -- Typing in one pass over the nodes of a term, from the first to the last.
-use Rattle.std.specs.Prelude.{◌≡◌, ℕ, suc, ◌+◌, ◌<◌, List, [], ◌∷◌, ◌++◌, length, map, drop, slice_index_or, Option, Some, None, Result, Ok, Err}
+use Rattle.std.specs.Prelude.{◌≡◌, ℕ, ◌<◌, List, [], ◌∷◌, ◌++◌, length, slice_index_or, Option, Some, None, Result, Ok, Err}
 use Rattle.lt_definitions.specs.Types.{Chars, TypeTree, found, fun}
 use Rattle.lt_definitions.specs.Terms.{TermTree, free_variable, bound_name, constant, application, abstraction}
 use Rattle.lt_definitions.specs.Typing.{Signature, Fault, mismatch, type_fault, unless, with_ok, constant_type, declared_type, applied_type, bound_type}

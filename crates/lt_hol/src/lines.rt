@@ -1,10 +1,12 @@
 //! The lines of a derivation, over one vector of nodes.
-ghost use Rattle.std.specs.Prelude.{◌≡◌, [], ◌∷◌, ◌++◌, ◌<◌, length, slice_get, true, Some, IfOk, OnOk, OnErr};
+ghost use Rattle.std.specs.Prelude.{◌≡◌, [], ◌∷◌, ◌++◌, ◌<◌, length, slice_get, get_or, true, Some, IfOk, OnOk, OnErr};
 ghost use Rattle.std.specs.List.{list_all};
+ghost use Rattle.lt_definitions.specs.Terms.{bound_name};
 ghost use Rattle.lt_hol.specs.Lines.{are_in_order, has_children_below, is_within, rule_of, rules_of, trees};
 
 use crate::line::Line;
-use crate::term::TermNode;
+use crate::shared_nodes::term_at;
+use crate::term::{Term, TermNode};
 use lt_types::{List, Memory, TryCopy};
 use std::alloc::Global;
 
@@ -69,6 +71,14 @@ impl Lines {
     {
         self.lines.at(i)
     }
+
+    /// The term at a place among the nodes. It takes time linear in that term, as a tree.
+    pub fn term(&self, alloc: Global, place: usize) -> Result<Term, Memory>
+        requires { place < length self.now.nodes }
+        ensures { IfOk result (λ t. t ≡ get_or (trees self.now.nodes) place (bound_name [])) }
+    {
+        term_at(alloc, self.nodes.as_slice(), place)
+    }
 }
 
 impl TryCopy for Lines {
@@ -84,7 +94,6 @@ impl TryCopy for Lines {
 mod tests {
     use super::*;
     use crate::item::Item;
-    use crate::term::Term;
     use lt_types::{Name, Ty};
     use std::test::Fail;
 

@@ -42,7 +42,7 @@ fn put(
 }
 
 /// Whether a node is the free variable of that name and type.
-fn is_free(node: &TermNode, name: &Name, ty: &Ty) -> bool
+pub(crate) fn is_free(node: &TermNode, name: &Name, ty: &Ty) -> bool
     ensures { result ≡ is_free name.now ty.now node.now }
 {
     match node {

@@ -1,12 +1,33 @@
-//! The kernel: what a theory has declared and stated, and derivations over it.
+//! The kernel: what a theory has declared and stated, and derivations over any store of terms.
 #![tactic(auto)]
 
-mod fault;
-pub mod form;
+mod applying;
+mod assuming;
+mod binding;
+mod calls;
+mod choosing;
+mod derive;
+mod equating;
+mod function_types;
+mod hyps;
+mod implying;
+mod making;
+mod making_more;
 mod proof;
-mod rules;
-mod terms;
-mod types;
+mod proof_store;
+mod quantifying;
+mod redexes;
+mod replacing;
+mod rule_fault;
+mod sequent;
+mod shapes;
+mod steps;
+mod typing;
+mod word;
 
-pub use fault::Fault;
-pub use proof::{Proof, Sequent};
+pub use proof::{Proof, ProofMark};
+pub use rule_fault::RuleFault;
+pub use sequent::{Sequent, Step};
+
+#[cfg(test)]
+mod tests;

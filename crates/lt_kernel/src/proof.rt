@@ -1,173 +1,224 @@
-//! What a theory has declared and stated, and the lines of a derivation over it.
+//! What a theory has declared and stated, and the lines of a derivation, over a store of terms.
+ghost use Rattle.std.specs.Prelude.{◌≡◌, ◌<◌, [], ◌∷◌, ◌++◌, length, take, is_some, None, IfOk, IfSome, OnOk, OnErr};
+ghost use Rattle.std.specs.Option.{option_copied, option_map};
+ghost use Rattle.lt_definitions.specs.Types.{found};
+ghost use Rattle.lt_definitions.specs.Rules.{line_at};
+ghost use Rattle.lt_definitions.specs.Nameless.{nameless, IsWhole};
+ghost use Rattle.lt_hol.specs.Faults.{DeclaresType, DeclaresConst, cut};
+ghost use Rattle.lt_store.specs.Trees.{tree_at};
+ghost use Rattle.lt_kernel.specs.Lines.{IsGoodLine};
+ghost use Rattle.lt_kernel.specs.Sequents.{IsWithin};
+ghost use Rattle.lt_kernel.specs.State.{step_of, Answers, Keeps, Names};
 
-use crate::fault::Fault;
-use crate::form::{Item, Line, Term, TermNode, Ty, TyNode};
-use indexmap::{IndexMap, IndexSet};
-use lt_hol::{Name, TryCopy};
+use crate::derive::derive;
+use crate::rule_fault::RuleFault;
+use crate::sequent::{Sequent, Step};
+use crate::steps::step_at;
+use indexmap::IndexMap;
+use lt_hol::{Line, Memory, Name, SigMark, Signature, Term, TryCopy, Ty, TypeFault};
+use lt_store::{Id, TermStore, to_store};
 use std::alloc::Global;
-use std::collections::HashMap;
+use std::marker::Model;
 
-/// Hypotheses and a conclusion, which are indices of terms.
-#[derive(Debug, Drop)]
-pub struct Sequent {
-    pub hyps: Vec<usize>,
-    pub concl: usize,
-}
-
-/// The declared types and constants, the labels of statements, and a derivation's lines. Each type
-/// and each term stands once, so that equality is equality of indices.
+/// What is declared, the named statements, and the lines of a derivation, over a store of terms.
 #[derive(Drop)]
-pub struct Proof {
-    pub(crate) arities: HashMap<Name, u32>,
-    pub(crate) types: IndexSet<TyNode>,
-    /// The constants, each with the index of its type, or with None where that has type variables.
-    pub(crate) constants: HashMap<Name, Option<usize>>,
-    /// The terms, each with the index of its type.
-    pub(crate) terms: IndexMap<TermNode, usize>,
-    /// The statements under their labels, as indices of terms.
-    pub(crate) statements: HashMap<Name, usize>,
-    pub(crate) lines: Vec<Sequent>,
-    pub(crate) boolean: usize,
-    /// The index of the constant `imp`.
-    pub(crate) imp: usize,
+pub struct Proof<S: TermStore> {
+    signature: Signature,
+    pub(crate) store: S,
+    named: IndexMap<Name, Id>,
+    steps: Vec<Step>,
 }
 
-/// A name that is known to be one, of the built-in types and constants.
-fn built_in(alloc: Global, text: &str) -> Result<Name, Fault> {
-    Name::new(alloc, text)?.ok_or(Fault::UnknownConst)
+impl<S: TermStore> Model for Proof<S> {
+    ghost use Rattle.lt_kernel.specs.State.{State};
+
+    ghost Value = { State };
+
+    ghost use Rattle.std.specs.Coded.{codes};
+    ghost use Rattle.lt_types.specs.Codes.{coded_type};
+
+    ghost coded = { Prim.hlevel (codes, coded_type) };
+
+    ghost use Rattle.std.specs.Prelude.{length};
+    ghost use Rattle.lt_kernel.specs.Sequents.{AreWithin, NamedWithin};
+
+    ghost view = { λ p. record { nodes = S.nodes p.store; signature = p.signature; named = p.named.entries; steps = p.steps.items } };
+
+    ghost invariant = { λ p. record { steps : AreWithin (length (S.nodes p.store)) p.steps.items; named : NamedWithin (length (S.nodes p.store)) p.named.entries } };
 }
 
-impl Proof {
-    /// The theory of the built-in types and constants, without lines.
-    ///
-    /// # Errors
-    ///
-    /// `Memory`.
-    pub fn new(alloc: Global) -> Result<Proof, Fault> {
-        let mut proof = Proof {
-            arities: HashMap::new(alloc),
-            types: IndexSet::new(alloc),
-            constants: HashMap::new(alloc),
-            terms: IndexMap::new(alloc),
-            statements: HashMap::new(alloc),
-            lines: Vec::new(alloc),
-            boolean: 0,
-            imp: 0,
-        };
-        proof.arities.insert(built_in(alloc, "bool")?, 0)?;
-        proof.arities.insert(built_in(alloc, "fun")?, 2)?;
-        proof.boolean = proof.make_type(built_in(alloc, "bool")?, Vec::new(alloc))?;
-        proof.declare_imp(alloc)?;
-        for polymorphic in ["eq", "all", "eps"] {
-            proof.constants.insert(built_in(alloc, polymorphic)?, None)?;
-        }
-        Ok(proof)
-    }
+/// How many types, constants and named statements there are.
+#[derive(Clone, Copy, Debug, PartialEq, Eq)]
+pub struct ProofMark {
+    pub sig: SigMark,
+    pub statements: usize,
+}
 
-    fn declare_imp(&mut self, alloc: Global) -> Result<(), Fault> {
-        let predicate = self.make_function(alloc, self.boolean, self.boolean)?;
-        let connective = self.make_function(alloc, self.boolean, predicate)?;
-        let name = built_in(alloc, "imp")?;
-        self.constants.insert(name.copy(alloc)?, Some(connective))?;
-        self.imp = self.make_term(TermNode::Const(name), connective)?;
-        Ok(())
-    }
-
-    fn make_function(&mut self, alloc: Global, from: usize, to: usize) -> Result<usize, Fault> {
-        let mut arguments = Vec::new(alloc);
-        arguments.push(from)?;
-        arguments.push(to)?;
-        self.make_type(built_in(alloc, "fun")?, arguments)
-    }
-
-    /// Adds an item if it is valid over the theory so far. Where it isn't, the theory must not be
-    /// used any more.
-    ///
-    /// # Errors
-    ///
-    /// The first fault of the item, its types and terms before its name; `Memory`.
-    pub fn add_item(&mut self, alloc: Global, item: &Item) -> Result<(), Fault> {
-        match item {
-            Item::Type(name, arity) => self.add_type(alloc, name, *arity),
-            Item::Const(name, ty) => self.add_constant(alloc, name, ty),
-            Item::Axiom(label, statement) => {
-                let statement = self.statement(alloc, statement)?;
-                self.add_statement(alloc, label, statement)
-            }
-            Item::Lemma(label, statement, lines) => self.add_lemma(alloc, label, statement, lines),
+impl<S: TermStore + Drop> Proof<S> {
+    /// A proof without named statements and lines, over a signature and a store.
+    pub fn new(alloc: Global, signature: Signature, store: S) -> Proof<S>
+        ensures nodes { result.nodes ≡ S.nodes store }
+        ensures signature { result.signature ≡ signature }
+        ensures named { result.named ≡ [] }
+        ensures steps { result.steps ≡ [] }
+    {
+        Proof {
+            signature,
+            store,
+            named: IndexMap::new(alloc),
+            steps: Vec::new(alloc),
         }
     }
 
-    fn add_type(&mut self, alloc: Global, name: &Name, arity: u32) -> Result<(), Fault> {
-        if self.arities.contains_key(name) {
-            return Err(Fault::Duplicate);
-        }
-        self.arities.insert(name.copy(alloc)?, arity)?;
-        Ok(())
-    }
-
-    fn add_constant(&mut self, alloc: Global, name: &Name, ty: &Ty) -> Result<(), Fault> {
-        let ty = self.load_type(alloc, ty)?;
-        if self.constants.contains_key(name) {
-            return Err(Fault::Duplicate);
-        }
-        self.constants.insert(name.copy(alloc)?, Some(ty))?;
-        Ok(())
-    }
-
-    fn add_statement(
+    /// Names a statement. `Duplicate` where one has the label already.
+    pub fn add_statement(
         &mut self,
-        alloc: Global,
-        label: &Name,
-        statement: usize,
-    ) -> Result<(), Fault> {
-        if self.statements.contains_key(label) {
-            return Err(Fault::Duplicate);
+        _alloc: Global,
+        label: Name,
+        statement: Id,
+    ) -> Result<(), RuleFault>
+        requires { statement < length self.old.nodes }
+        ensures { Names self.old self.new label statement result }
+    {
+        if is_named(&self.named, &label) {
+            return Err(RuleFault::Duplicate(label));
         }
-        self.statements.insert(label.copy(alloc)?, statement)?;
+        self.named.insert(label, statement)?;
         Ok(())
     }
 
-    fn add_lemma(
-        &mut self,
-        alloc: Global,
-        label: &Name,
-        statement: &Term,
-        lines: &[Line],
-    ) -> Result<(), Fault> {
-        let statement = self.statement(alloc, statement)?;
-        if self.statements.contains_key(label) {
-            return Err(Fault::Duplicate);
-        }
-        self.lines.clear();
-        for line in lines {
-            let sequent = self.step(alloc, line)?;
-            self.lines.push(sequent)?;
-        }
-        self.proves(statement)?;
-        self.add_statement(alloc, label, statement)
-    }
-
-    // Whether the last line has no hypothesis and that conclusion.
-    fn proves(&self, statement: usize) -> Result<(), Fault> {
-        let Some(last) = self.lines.last() else {
-            return Err(Fault::NotProved);
+    /// Adds the line with the sequent that its rule gives, and answers its number, from 1.
+    ///
+    /// `Bad` where the rule gives none, with the first reason. What was there stays, also after a refusal.
+    pub fn apply(&mut self, alloc: Global, line: &Line) -> Result<usize, RuleFault>
+        requires { IsGoodLine self.old.signature self.old.nodes line.now }
+        ensures { Answers self.old self.new line.now result (step_of self.old line.now) }
+    {
+        let sequent = match derive(
+            alloc,
+            &mut self.store,
+            &self.signature,
+            &self.named,
+            self.steps.as_slice(),
+            line,
+        ) {
+            Ok(sequent) => sequent,
+            Err(fault) => return Err(fault),
         };
-        if !last.hyps.is_empty() {
-            return Err(Fault::NotProved);
-        }
-        if last.concl != statement {
-            return Err(Fault::NotProved);
-        }
-        Ok(())
+        let number = add_step(alloc, &mut self.steps, line, sequent)?;
+        Ok(number)
     }
 
-    // A boolean term's index.
-    pub(crate) fn statement(&mut self, alloc: Global, term: &Term) -> Result<usize, Fault> {
-        let (index, ty) = self.load_term(alloc, term)?;
-        if ty != self.boolean {
-            return Err(Fault::NotBool);
+    /// The sequent of the line with a number; None where there is no such line.
+    pub fn sequent(&self, number: usize) -> Option<&Sequent>
+        ensures is { option_copied result ≡ option_map (λ s. s.sequent) (line_at self.now.steps number) }
+        ensures within { IfSome result (λ s. IsWithin (length self.now.nodes) s.now) }
+    {
+        match step_at(self.steps.as_slice(), number) {
+            Some(step) => Some(&step.sequent),
+            None => None,
         }
-        Ok(index)
     }
+
+    /// The line with a number; None where there is no such line.
+    pub fn line(&self, number: usize) -> Option<&Line>
+        ensures { option_copied result ≡ option_map (λ s. s.line) (line_at self.now.steps number) }
+    {
+        match step_at(self.steps.as_slice(), number) {
+            Some(step) => Some(&step.line),
+            None => None,
+        }
+    }
+
+    /// The store of the terms.
+    pub fn store(&self) -> &S
+        ensures { S.nodes result.now ≡ self.now.nodes }
+    {
+        &self.store
+    }
+
+    /// Puts a term into the store. What is declared, the named statements and the lines stay.
+    pub fn add_term(&mut self, alloc: Global, t: &Term) -> Result<Id, Memory>
+        requires { IsWhole 0 (nameless [] t.now) }
+        ensures kept { Keeps self.old self.new }
+        ensures made { IfOk result (λ r. r < length self.new.nodes) }
+        ensures is { IfOk result (λ r. tree_at self.new.nodes r ≡ nameless [] t.now) }
+    {
+        let id = to_store(alloc, &mut self.store, t)?;
+        Ok(id)
+    }
+
+    /// What is declared.
+    pub fn signature(&self) -> &Signature
+        ensures { result.now ≡ self.now.signature }
+    {
+        &self.signature
+    }
+
+    /// Declares a type, as `Signature::add_type`.
+    pub fn add_type(&mut self, alloc: Global, name: Name, arity: usize) -> Result<(), TypeFault>
+        ensures declares { DeclaresType self.old.signature self.new.signature name arity result }
+        ensures rest { self.new ≡ record self.old { signature = self.new.signature } }
+    {
+        self.signature.add_type(alloc, name, arity)
+    }
+
+    /// Declares a constant, as `Signature::add_const`.
+    pub fn add_const(&mut self, alloc: Global, name: Name, ty: Ty) -> Result<(), TypeFault>
+        ensures declares { DeclaresConst self.old.signature self.new.signature name ty result }
+        ensures rest { self.new ≡ record self.old { signature = self.new.signature } }
+    {
+        self.signature.add_const(alloc, name, ty)
+    }
+
+    /// Drops the lines.
+    pub fn clear(&mut self)
+        ensures { self.new ≡ record self.old { steps = [] } }
+    {
+        self.steps.clear();
+    }
+
+    /// How many types, constants and named statements there are.
+    pub fn mark(&self) -> ProofMark
+        ensures types { result.sig.types ≡ length self.now.signature.types }
+        ensures constants { result.sig.constants ≡ length self.now.signature.consts }
+        ensures statements { result.statements ≡ length self.now.named }
+    {
+        ProofMark {
+            sig: self.signature.mark(),
+            statements: self.named.len(),
+        }
+    }
+
+    /// Drops the types, constants and named statements that came after the mark, and all lines.
+    pub fn back(&mut self, mark: ProofMark)
+        ensures { self.new ≡ record self.old { signature = cut mark.sig.types mark.sig.constants self.old.signature; named = take mark.statements self.old.named; steps = [] } }
+    {
+        self.signature.back(mark.sig);
+        self.named.truncate(mark.statements);
+        self.steps.clear();
+    }
+}
+
+/// Whether a statement has the label.
+fn is_named(named: &IndexMap<Name, Id>, label: &Name) -> bool
+    ensures { result ≡ is_some (found label.now named.now.entries) }
+{
+    named.get(label).is_some()
+}
+
+/// Adds a line with its sequent, and answers its number.
+fn add_step(
+    alloc: Global,
+    steps: &mut Vec<Step>,
+    line: &Line,
+    sequent: Sequent,
+) -> Result<usize, Memory>
+    ensures ok { OnOk result (steps.new.items ≡ steps.old.items ++ record { line = line.now; sequent = sequent } ∷ []) }
+    ensures number { IfOk result (λ n. n ≡ length steps.new.items) }
+    ensures err { OnErr result (steps.new.items ≡ steps.old.items) }
+{
+    let line = line.copy(alloc)?;
+    steps.push(Step { line, sequent })?;
+    Ok(steps.len())
 }

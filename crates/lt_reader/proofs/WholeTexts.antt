@@ -94,3 +94,15 @@ fault_has_no_items text items s e o (ps, front, _) h all (vs, (z, spans, g), (pa
     let r = front_of (left_of text) s z (parts_lexemes (header ∷ ps) []) vs front spans g in
     let rest : IsRest (parts_lexemes (header ∷ ps) r.0) = (header ∷ parts, parts-split (header ∷ ps) r.0 ∙ sym r.1 ∙ k) in
     fault IsRest s z r.0 e o h r.2 g (strip (header ∷ ps) r.0 rest)
+
+-- what has items has those that it begins with, and then others
+pub rest_has_items : (text : List ℕ) (items all : List Item) (s : Left) → Begins text items s → HasItems text all → (later : List Item) × HasItems text (items ++ later)
+rest_has_items text items all s (ps, front, e) (vs, (z, spans, g), (qs, k, _)) =
+    let r = front_of (left_of text) s z (parts_lexemes (header ∷ ps) []) vs front spans g in
+    let whole : vs ≡ parts_lexemes (header ∷ ps) r.0 = r.1 ∙ sym (parts-split (header ∷ ps) r.0) in
+    let rest : IsRest r.0 = strip (header ∷ ps) r.0 (header ∷ qs, sym whole ∙ k) in
+    let parts : vs ≡ parts_lexemes (header ∷ (ps ++ rest.0)) [] =
+    whole ∙ ap (parts_lexemes (header ∷ ps)) rest.1 ∙ parts-append (header ∷ ps) rest.0 [] in
+    let items_are : items ++ items_of rest.0 ≡ items_of (ps ++ rest.0) =
+    ap (λ (z : List Item). z ++ items_of rest.0) e ∙ sym (items-append ps rest.0) in
+    (items_of rest.0, (vs, (z, spans, g), (ps ++ rest.0, parts, items_are)))

@@ -31,3 +31,9 @@ pub fn fault_has_no_items()
 pub fn no_header_has_no_items()
     ensures { (text : List ℕ) (e : Unread) → IsOfText e → Fails IsWhole (left_of text) e → HasNoItems text }
 {}
+
+/// One that begins with some items and has items has these, and then others.
+pub fn rest_has_items()
+    ensures { (text : List ℕ) (items all : List Item) (s : Left) → Begins text items s → HasItems text all
+        → (later : List Item) × HasItems text (items ++ later) }
+{}

@@ -1,2 +1,4 @@
-pub mod Report
+pub mod Counts
+pub mod Walking
+pub mod Reports
 pub mod Words

@@ -1,13 +1,11 @@
 //! The top call: reads the words, the file and its theory, and writes what was found.
 #![tactic(auto)]
 
-mod printing;
-mod reader;
+mod counts;
+mod form;
 mod report;
 mod run;
 mod sure;
-mod terms;
-mod types;
 mod walk;
 mod words;
 

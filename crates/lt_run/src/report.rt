@@ -1,19 +1,21 @@
 //! The lines on the second sink.
 ghost use Rattle.std.specs.Prelude.{◌≡◌, IfOk, string_bytes};
-ghost use Rattle.lt_run.specs.declared.walk.Refusal.{Refusal};
-ghost use Rattle.lt_run.specs.Report.{refusal_line, read_fault_line};
+ghost use Rattle.lt_definitions.specs.Walks.{error_line};
+ghost use Rattle.lt_run.specs.Reports.{read_fault_line};
 
-use crate::walk::Refusal;
+use lt_definitions::walks::Ending;
 use std::alloc::{AllocError, Global};
 
-/// The line that says why a file is refused.
-pub(crate) fn refusal_text(alloc: Global, file: &str, why: Refusal) -> Result<String, AllocError>
-    ensures { IfOk result (λ text. string_bytes text ≡ refusal_line file.now why) }
+/// The line that says how a walk ended about a file; it is empty where the walk accepted all.
+#[tactic(auto, unfolding(lt_definitions::specs::Walks::error_line))]
+pub(crate) fn ending_text(alloc: Global, file: &str, ending: Ending) -> Result<String, AllocError>
+    ensures { IfOk result (λ text. string_bytes text ≡ error_line file.now ending) }
 {
-    match why {
-        Refusal::TooLong => format!(in alloc; "{file}: TooLong\n"),
-        Refusal::NotBuilt => format!(in alloc; "{file}: NotBuilt\n"),
-        Refusal::AtItem(n) => format!(in alloc; "{file}: Item {n}\n"),
+    match ending {
+        Ending::Accepted => Ok(String::new(alloc)),
+        Ending::TooLong => format!(in alloc; "{file}: TooLong\n"),
+        Ending::NotBuilt => format!(in alloc; "{file}: NotBuilt\n"),
+        Ending::AtItem(n) => format!(in alloc; "{file}: Item {n}\n"),
     }
 }
 

@@ -1,31 +1,28 @@
 //! The walk through a text: its items are checked and reported one after another.
-ghost use Rattle.std.specs.Prelude.{◌≤◌, IsErrOf};
+ghost use Rattle.std.specs.Prelude.{◌≡◌, ◌⊎◌, ◌≤◌, [], length, IfOk, IfErr, OnOk, OnErr, IsErrOf, IsSome, None, true, encode_utf8_all};
+ghost use Rattle.std.specs.Bool.{MatchBool};
+ghost use Rattle.lt_definitions.specs.Items.{Context, empty, with_item};
+ghost use Rattle.lt_definitions.specs.Theory.{refusal};
+ghost use Rattle.lt_definitions.specs.Printing.{summary_line};
+ghost use Rattle.lt_definitions.specs.Walks.{plain_limit};
+ghost use Rattle.lt_hol.specs.Items.{item_of};
 ghost use Rattle.lt_io.specs.Causes.{Rose};
+ghost use Rattle.lt_io.specs.Written.{Grew, GrewByFront};
+ghost use Rattle.lt_syntax.specs.ItemText.{line_of_counts};
+ghost use Rattle.lt_theory.specs.Small.{is_small};
+ghost use Rattle.lt_theory.specs.Standing.{StandsFor};
+ghost use Rattle.lt_run.specs.Reports.{IsReported, IsCutShort};
+ghost use Rattle.lt_run.specs.Walking.{IsOfForm};
 
-use crate::printing::summary_line;
-use crate::reader::{Reader, Unread};
+use crate::counts::Counts;
+use crate::form::{is_of_form, open_text, take_item};
+use lt_definitions::walks::Ending;
+use lt_hol::Item;
 use lt_io::{Sink, write_all};
-use lt_kernel::form::Item;
-use lt_kernel::{Fault, Proof};
-use std::alloc::{AllocError, Global};
-
-/// Why a text is refused.
-#[derive(Clone, Copy, Debug, Drop)]
-pub enum Refusal {
-    /// The text has more bytes than a plain text may have.
-    TooLong,
-    /// The text isn't of the form that is read so far.
-    NotBuilt,
-    /// The item with this number, from 1, is the first that isn't valid over those before it.
-    AtItem(usize),
-}
-
-/// How the walk through a text ended.
-#[derive(Clone, Copy, Debug, Drop)]
-pub enum Ending {
-    Accepted,
-    Refused(Refusal),
-}
+use lt_syntax::{count_line, summary_line};
+use lt_theory::{Fault, Theory};
+use lt_types::Memory;
+use std::alloc::Global;
 
 /// What kept a walk from its end.
 #[derive(Clone, Copy, Debug, Drop)]
@@ -36,127 +33,110 @@ pub(crate) enum Cut {
     Memory,
 }
 
-impl From<AllocError> for Cut {
+impl From<Memory> for Cut {
     ghost use Rattle.std.specs.Prelude.{◌≡◌};
     ghost use Rattle.lt_run.specs.declared.walk.Cut.TheVariants.{Memory as OutOfMemory};
 
     ghost from_gives = { λ _ e. e ≡ OutOfMemory };
 
-    fn from(_refused: AllocError) -> Cut {
+    fn from(_memory: Memory) -> Cut {
         Cut::Memory
     }
 }
 
-/// How many items were accepted, by kind.
-#[derive(Clone, Copy)]
-struct Counts {
-    items: usize,
-    axioms: usize,
-    lemmas: usize,
-}
-
-/// Walks through a text. Nothing is written of a text that isn't of the form, and of each accepted
-/// item its summary line, at once. The cost is linear in the text but for the lists of hypotheses.
+/// Walks through a text. Nothing is written of a text that isn't of the form, and of each accepted item its summary line, at once.
 pub(crate) fn walk_text<O: Sink>(alloc: Global, text: &[u8], out: &mut O) -> Result<Ending, Cut>
-    ensures later { O.faults out.old ≤ O.faults out.new }
+    requires { length text.now ≤ plain_limit }
+    ensures ended { IfOk result (λ ending. IsReported text.now ending (O.written out.old) (O.written out.new)) }
+    ensures cut { IfErr result (λ _. Grew (O.written out.old) (O.written out.new) [] ⊎ IsCutShort text.now (O.written out.old) (O.written out.new)) }
     ensures fault { IsErrOf result Cut.Fault → Rose (O.faults out.old) (O.faults out.new) }
+    ensures later { O.faults out.old ≤ O.faults out.new }
 {
-    match read_to_end(alloc, text) {
-        Ok(()) => walk_items(alloc, text, out),
-        Err(Unread::NotBuilt) => Ok(Ending::Refused(Refusal::NotBuilt)),
-        Err(Unread::Memory) => Err(Cut::Memory),
+    if !is_of_form(alloc, text)? {
+        return Ok(Ending::NotBuilt);
     }
+    let mut theory = Theory::new(alloc)?;
+    walk_items(alloc, text, &mut theory, out)
 }
 
-// Whether the whole text is of the form.
-fn read_to_end(alloc: Global, text: &[u8]) -> Result<(), Unread> {
-    let mut reader = Reader::new(text);
-    reader.header()?;
-    'items: loop {
-        if reader.next_item(alloc)?.is_none() {
-            return Ok(());
-        }
-    }
-}
-
-fn walk_items<O: Sink>(alloc: Global, text: &[u8], out: &mut O) -> Result<Ending, Cut>
-    ensures later { O.faults out.old ≤ O.faults out.new }
+/// Walks through a text that is of the form, with a theory that has no item yet.
+fn walk_items<O: Sink>(
+    alloc: Global,
+    text: &[u8],
+    theory: &mut Theory,
+    out: &mut O,
+) -> Result<Ending, Cut>
+    requires short { length text.now ≤ plain_limit }
+    requires form { IsOfForm text.now }
+    requires stands { StandsFor empty theory.old }
+    ensures ended { IfOk result (λ ending. IsReported text.now ending (O.written out.old) (O.written out.new)) }
+    ensures cut { IfErr result (λ _. IsCutShort text.now (O.written out.old) (O.written out.new)) }
     ensures fault { IsErrOf result Cut.Fault → Rose (O.faults out.old) (O.faults out.new) }
+    ensures later { O.faults out.old ≤ O.faults out.new }
 {
-    let mut reader = Reader::new(text);
-    if reader.header().is_err() {
-        return Err(Cut::Memory);
-    }
-    let Ok(mut proof) = Proof::new(alloc) else {
-        return Err(Cut::Memory);
-    };
-    let mut counts = Counts {
-        items: 0,
-        axioms: 0,
-        lemmas: 0,
-    };
+    let mut reader = open_text(alloc, text)?;
+    let mut counts = Counts::none();
     'items: loop {
-        let item = match reader.next_item(alloc) {
-            Ok(Some(item)) => item,
-            Ok(None) => return finish(alloc, counts, out),
-            Err(Unread::NotBuilt) => return Ok(Ending::Refused(Refusal::NotBuilt)),
-            Err(Unread::Memory) => return Err(Cut::Memory),
+        let Some((item, rest)) = take_item(alloc, reader)? else {
+            return finish(alloc, counts, out);
         };
-        if !is_valid(alloc, &mut proof, &item)? {
-            let number = counts.items.saturating_add(1);
-            return Ok(Ending::Refused(Refusal::AtItem(number)));
+        if !accepts(alloc, theory, &item)? {
+            return Ok(Ending::AtItem(counts.items + 1));
         }
-        let line = summary_line(alloc, &item)?;
-        write_piece(out, line.as_bytes())?;
+        report_item(alloc, &item, out)?;
         counts = counts.with(&item);
+        drop(item);
+        reader = rest;
     }
 }
 
-// Adds an item to the theory where it is valid over the items before it.
-fn is_valid(alloc: Global, proof: &mut Proof, item: &Item) -> Result<bool, Cut>
-    ensures { IsErrOf result Cut.Fault → ⊥ }
+/// Adds an item to a theory where it is valid over the items before it, and says whether it is.
+fn accepts(alloc: Global, theory: &mut Theory, item: &Item) -> Result<bool, Memory>
+    requires { is_small (item_of item.now) ≡ true }
+    ensures { (ctx : Context) → StandsFor ctx theory.old → IfOk result (λ valid. MatchBool valid
+        ((refusal ctx (item_of item.now) ≡ None) × StandsFor (with_item ctx (item_of item.now)) theory.new)
+        (IsSome (refusal ctx (item_of item.now)))) }
 {
-    match proof.add_item(alloc, item) {
+    match theory.add_item(alloc, item) {
         Ok(()) => Ok(true),
-        Err(Fault::Memory) => Err(Cut::Memory),
-        Err(_) => Ok(false),
+        Err(Fault::Refused) => Ok(false),
+        Err(Fault::Memory) => Err(Memory),
     }
 }
 
-// Writes the line of counts, which ends a summary.
-fn finish<O: Sink>(alloc: Global, counts: Counts, out: &mut O) -> Result<Ending, Cut>
-    ensures later { O.faults out.old ≤ O.faults out.new }
+/// Writes an item's summary line.
+fn report_item<O: Sink>(alloc: Global, item: &Item, out: &mut O) -> Result<(), Cut>
+    ensures all { OnOk result (Grew (O.written out.old) (O.written out.new) (encode_utf8_all (summary_line (item_of item.now)))) }
+    ensures front { OnErr result (GrewByFront (O.written out.old) (O.written out.new) (encode_utf8_all (summary_line (item_of item.now)))) }
     ensures fault { IsErrOf result Cut.Fault → Rose (O.faults out.old) (O.faults out.new) }
+    ensures later { O.faults out.old ≤ O.faults out.new }
 {
-    let Counts {
-        items,
-        axioms,
-        lemmas,
-    } = counts;
-    let line = format!(in alloc; "items {items} axioms {axioms} lemmas {lemmas}\n")?;
+    let line = summary_line(alloc, item)?;
+    write_piece(out, line.as_bytes())
+}
+
+/// Writes the line of counts, which ends a summary.
+fn finish<O: Sink>(alloc: Global, counts: Counts, out: &mut O) -> Result<Ending, Cut>
+    ensures all { IfOk result (λ ending. (ending ≡ Ending.Accepted)
+        × Grew (O.written out.old) (O.written out.new) (encode_utf8_all (line_of_counts counts.items counts.axioms counts.lemmas))) }
+    ensures front { OnErr result (GrewByFront (O.written out.old) (O.written out.new) (encode_utf8_all (line_of_counts counts.items counts.axioms counts.lemmas))) }
+    ensures fault { IsErrOf result Cut.Fault → Rose (O.faults out.old) (O.faults out.new) }
+    ensures later { O.faults out.old ≤ O.faults out.new }
+{
+    let line = count_line(alloc, counts.items, counts.axioms, counts.lemmas)?;
     write_piece(out, line.as_bytes())?;
     Ok(Ending::Accepted)
 }
 
+/// Writes a piece whole, or a front of it.
 fn write_piece<O: Sink>(out: &mut O, piece: &[u8]) -> Result<(), Cut>
-    ensures later { O.faults out.old ≤ O.faults out.new }
+    ensures all { OnOk result (Grew (O.written out.old) (O.written out.new) piece.now) }
+    ensures front { OnErr result (GrewByFront (O.written out.old) (O.written out.new) piece.now) }
     ensures fault { IsErrOf result Cut.Fault → Rose (O.faults out.old) (O.faults out.new) }
+    ensures later { O.faults out.old ≤ O.faults out.new }
 {
     match write_all(out, piece) {
         Ok(()) => Ok(()),
         Err(_) => Err(Cut::Fault),
-    }
-}
-
-impl Counts {
-    fn with(self, item: &Item) -> Counts {
-        let mut counts = self;
-        counts.items = counts.items.saturating_add(1);
-        match item {
-            Item::Axiom(_, _) => counts.axioms = counts.axioms.saturating_add(1),
-            Item::Lemma(_, _, _) => counts.lemmas = counts.lemmas.saturating_add(1),
-            Item::Type(_, _) | Item::Const(_, _) => {}
-        }
-        counts
     }
 }

@@ -1,6 +1,6 @@
 -- The names of binders.
-use Rattle.std.proofs.Common.{◌≡◌, ℕ, zero, suc, ◌+◌, ◌-◌, ◌^◌, ◌<◌, ◌≤◌, ◌%◌, ◌/◌, List, [], ◌∷◌, ◌++◌, Bool, true, false, ◌&&◌, length, slice_get, get_or, Some, ◌⊎◌, inl, inr, refl, sym, ◌∙◌, ap, subst, arith, codes}
-use Rattle.std.specs.Str.{IsAscii, chars}
+use Rattle.std.proofs.Common.{◌≡◌, ℕ, zero, suc, ◌+◌, ◌-◌, ◌^◌, ◌<◌, ◌%◌, List, [], ◌∷◌, ◌++◌, true, false, inl, inr, refl, sym, ◌∙◌, ap, arith}
+use Rattle.std.specs.Str.{chars}
 use Rattle.std.specs.Str.Parse.{digits_value}
 use Rattle.std.specs.Fmt.{decimal}
 use Rattle.std.proofs.lemmas.Str.{chars-IsAscii}
@@ -12,11 +12,10 @@ use Rattle.ucd_table.specs.Rows.{in_ranges}
 use Rattle.ucd_derived.specs.XidStartRanges.{xid_start_ranges}
 use Rattle.ucd_derived.specs.XidContinueRanges.{xid_continue_ranges}
 use Rattle.lt_types.specs.Lexical.{is_name, name_goes_on, may_stand}
-use Rattle.lt_definitions.specs.Types.{Chars, same_name}
-use Rattle.lt_definitions.specs.Nameless.{Nameless, nameless_bound, deeper, nameless_name}
+use Rattle.lt_definitions.specs.Nameless.{nameless_bound, deeper, nameless_name}
 use Rattle.lt_definitions.proofs.Tests.{true-name, false-name, both-true, true-both}
 use Rattle.lt_definitions.proofs.Alphas.{name-hit, name-miss}
-use Rattle.lt_store.specs.NameTasks.{binder_name, binder_names, HasNames}
+use Rattle.lt_store.specs.NameTasks.{binder_name, binder_names}
 
 x-starts : may_stand true 120 ≡ true
 unfolding is_xid_start in_ranges xid_start_ranges

@@ -10,3 +10,4 @@ pub mod TypeNumbers
 pub mod TypeTasks
 pub mod BinderNames
 pub mod NameTasks
+pub mod TestTerms

@@ -1,5 +1,5 @@
 -- Terms with names for their binders, task by task.
-use Rattle.std.proofs.Common.{◌≡◌, ℕ, suc, ◌+◌, ◌-◌, ◌*◌, ◌^◌, ◌<◌, ◌≤◌, List, [], ◌∷◌, length, refl, sym, ◌∙◌, ap, subst, arith}
+use Rattle.std.proofs.Common.{◌≡◌, ℕ, suc, ◌+◌, ◌-◌, ◌^◌, ◌<◌, ◌≤◌, List, [], ◌∷◌, length, sym, ◌∙◌, ap, subst, arith}
 use Rattle.lt_definitions.specs.Types.{Chars, TypeTree}
 use Rattle.lt_definitions.specs.Terms.{TermTree, bound_name, abstraction}
 use Rattle.lt_definitions.specs.Nameless.{Nameless, nameless_bound, nameless_abstraction, nameless_name, nameless, IsWhole}

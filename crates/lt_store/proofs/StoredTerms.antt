@@ -1,5 +1,5 @@
 -- Terms that are put into a store, node by node.
-use Rattle.std.proofs.Common.{◌≡◌, ℕ, zero, suc, ◌+◌, ◌-◌, ◌<◌, ◌≤◌, List, [], ◌∷◌, ◌++◌, length, map, reverse, drop, get_or, Option, Some, None, IsSome, Bool, true, false, if◌then◌else◌, inl, inr, refl, sym, ◌∙◌, ap, subst, arith, append_assoc, append-nil, length-append}
+use Rattle.std.proofs.Common.{◌≡◌, ℕ, suc, ◌+◌, ◌<◌, ◌≤◌, List, [], ◌∷◌, ◌++◌, length, map, reverse, drop, get_or, Option, Some, None, Bool, if◌then◌else◌, inl, inr, refl, sym, ◌∙◌, ap, subst, arith, append_assoc, append-nil, length-append}
 use Rattle.std.proofs.lemmas.List.{reverse-append, map-append, length-drop, length-reverse, length-map, get_or_append_left}
 use Rattle.std.proofs.Math.Seq.{drop-cons, get_or-append_seam}
 use Rattle.std.proofs.Math.ListN.{drop_of_length-le}
@@ -10,12 +10,12 @@ use Rattle.lt_definitions.proofs.Tests.{bool_cases}
 use Rattle.lt_definitions.proofs.Alphas.{name-hit, name-miss}
 use Rattle.lt_hol.specs.declared.bound_names.Binder.{Binder}
 use Rattle.lt_hol.specs.declared.term.TermNode.{TermNode}
-use Rattle.lt_hol.specs.declared.term.TermNode.TheVariants.{Free, Bound, Const, App, Lam}
+use Rattle.lt_hol.specs.declared.term.TermNode.TheVariants.{Bound, App, Lam}
 use Rattle.lt_hol.specs.Layout.{under, term_nodes}
 use Rattle.lt_hol.specs.BoundNames.{Places, further, binder_of, binders_in}
 use Rattle.lt_store.specs.declared.node.Node.{Node}
 use Rattle.lt_store.specs.Trees.{tree_at, trees, AllBelow, Extends}
-use Rattle.lt_store.specs.Stacks.{stack, joined, covered, index_of, grown, HasParts}
+use Rattle.lt_store.specs.Stacks.{stack, joined, covered, grown, HasParts}
 use Rattle.lt_store.proofs.Lists.{trees-extends}
 
 -- a bound name and its binder

@@ -1,8 +1,8 @@
 -- What a typing keeps, task by task.
-use Rattle.std.proofs.Common.{◌≡◌, ℕ, ◌+◌, ◌*◌, ◌<◌, List, [], ◌∷◌, ◌++◌, length, reverse, slice_get, Option, Some, None, Result, Ok, Err, ◌⊎◌, inl, inr, refl, sym, ◌∙◌, ap, subst, arith}
-use Rattle.lt_definitions.specs.Types.{Chars, TypeTree, fun, found}
-use Rattle.lt_definitions.specs.Typing.{Signature, Fault, earlier, type_fault, unless, with_ok, bound_type, constant_type, applied_type}
-use Rattle.lt_definitions.specs.Nameless.{Nameless, nameless_free, nameless_bound, nameless_constant, nameless_application, nameless_abstraction, IsWhole}
+use Rattle.std.proofs.Common.{◌≡◌, ℕ, ◌+◌, ◌*◌, ◌<◌, List, [], ◌∷◌, length, slice_get, Option, Some, None, Result, Ok, Err, ◌⊎◌, inl, inr, refl, sym, ◌∙◌, ap, subst, arith}
+use Rattle.lt_definitions.specs.Types.{TypeTree, fun}
+use Rattle.lt_definitions.specs.Typing.{Signature, Fault, earlier, type_fault, unless, with_ok, bound_type, applied_type}
+use Rattle.lt_definitions.specs.Nameless.{Nameless, nameless_bound, nameless_application, nameless_abstraction, IsWhole}
 use Rattle.lt_definitions.specs.NamelessRules.{nameless_typed}
 use Rattle.lt_hol.specs.declared.type_fault.TypeFault.{TypeFault}
 use Rattle.lt_hol.specs.Faults.{Finds, fault_of}
@@ -13,7 +13,7 @@ use Rattle.lt_store.specs.Trees.{tree_at, tree_size}
 use Rattle.lt_store.specs.Memos.{Memo, result_at, IsKept}
 use Rattle.lt_store.specs.TypeNumbers.{Has, GivesType, AreTypes, context_type}
 use Rattle.lt_hol.specs.TypeTables.{type_at, Extends}
-use Rattle.lt_store.specs.TypeTasks.{IsPlace, IsFound, AllFound, IsAmong, IsDue, IsEntered, outer, AreDue, fault_at, faults, IsTyping, weights}
+use Rattle.lt_store.specs.TypeTasks.{IsPlace, IsFound, AllFound, IsDue, IsEntered, outer, AreDue, fault_at, faults, IsTyping, weights}
 use Rattle.lt_store.proofs.Trees.{tree_size-positive}
 use Rattle.lt_store.proofs.Memos.{Keeps, keeps_more, keeps_own, kept_back, result_of}
 use Rattle.lt_store.proofs.TypeNumbers.{has-one, has-at, has-fun, has-on, has-within, extends_same, context-inj, types-on, types-length, types-at, finds-first, finds-unless}

@@ -2,7 +2,7 @@
 use Rattle.std.specs.Prelude.{◌≡◌, ℕ, zero, suc, ◌+◌, ◌*◌, ◌<◌, ◌≤◌, List, [], ◌∷◌, ◌++◌, length, slice_get, Some, codes}
 use Rattle.std.specs.Fmt.{decimal}
 use Rattle.lt_definitions.specs.Types.{Chars}
-use Rattle.lt_definitions.specs.Terms.{TermTree, application, abstraction}
+use Rattle.lt_definitions.specs.Terms.{TermTree}
 use Rattle.lt_definitions.specs.Nameless.{Nameless, nameless, IsWhole}
 use Rattle.lt_hol.specs.Layout.{applied, abstracted}
 use Rattle.lt_store.specs.declared.node.Node.{Node}

@@ -1,5 +1,5 @@
 -- What the nodes of a term make in a store, one after another.
-use Rattle.std.specs.Prelude.{ℕ, ◌≤◌, List, [], ◌∷◌, length, map, reverse, Option, Some, None, IsSome}
+use Rattle.std.specs.Prelude.{ℕ, ◌≤◌, List, [], ◌∷◌, length, reverse, Option, Some, None, IsSome}
 use Rattle.lt_definitions.specs.Types.{TypeTree}
 use Rattle.lt_definitions.specs.Nameless.{Nameless, nameless_free, nameless_bound, nameless_constant, nameless_application, nameless_abstraction}
 use Rattle.lt_hol.specs.declared.bound_names.Binder.{Binder}

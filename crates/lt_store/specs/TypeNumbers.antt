@@ -1,5 +1,5 @@
 -- Types by their numbers in a table.
-use Rattle.std.specs.Prelude.{◌≡◌, ℕ, List, [], ◌∷◌, reverse, slice_get, Some, None, Result, Ok, Err}
+use Rattle.std.specs.Prelude.{◌≡◌, ℕ, List, [], ◌∷◌, reverse, slice_get, Some, Result, Ok, Err}
 use Rattle.lt_definitions.specs.Types.{TypeTree, bool, fun}
 use Rattle.lt_definitions.specs.Typing.{Fault}
 use Rattle.lt_hol.specs.declared.type_fault.TypeFault.{TypeFault}

@@ -28,4 +28,6 @@ pub use term_store::TermStore;
 pub use typing::type_at;
 
 #[cfg(test)]
+mod term_tests;
+#[cfg(test)]
 mod tests;

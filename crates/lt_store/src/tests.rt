@@ -5,7 +5,7 @@ use std::alloc::Global;
 use std::process::Abort;
 use std::test::Fail;
 
-fn name(alloc: Global, rt: &impl Abort, text: &str) -> Result<Name, Memory> {
+pub fn name(alloc: Global, rt: &impl Abort, text: &str) -> Result<Name, Memory> {
     match Name::new(alloc, text)? {
         Some(name) => Ok(name),
         None => {
@@ -15,7 +15,7 @@ fn name(alloc: Global, rt: &impl Abort, text: &str) -> Result<Name, Memory> {
     }
 }
 
-fn bool_type(alloc: Global, rt: &impl Abort) -> Result<Ty, Memory> {
+pub fn bool_type(alloc: Global, rt: &impl Abort) -> Result<Ty, Memory> {
     Ty::con(alloc, name(alloc, rt, "bool")?, List::new(alloc))
 }
 

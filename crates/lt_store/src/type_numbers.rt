@@ -1,14 +1,31 @@
 //! Types of parts of terms by their numbers.
-ghost use Rattle.std.specs.Prelude.{◌≡◌, ◌<◌, ◌≤◌, ◌++◌, ◌∷◌, length, reverse, slice_get, None, Some, Ok, IfOk, IfErr, OnOk};
-ghost use Rattle.lt_definitions.specs.Types.{found};
-ghost use Rattle.lt_definitions.specs.Typing.{applied_type, constant_type, type_fault, unless};
+ghost use Rattle.std.specs.Prelude.{◌≡◌, ◌<◌, ◌≤◌, ◌++◌, ◌∷◌, length, reverse, slice_get, None, Some, Result, Ok, IfOk, IfErr, OnOk};
+ghost use Rattle.lt_definitions.specs.Types.{TypeTree, found};
+ghost use Rattle.lt_definitions.specs.Typing.{Fault, applied_type, constant_type, type_fault, unless};
 ghost use Rattle.lt_hol.specs.Faults.{Finds};
+ghost use Rattle.lt_hol.specs.Outcomes.{IsOutcome};
 ghost use Rattle.lt_hol.specs.TypeTables.{type_at, Extends};
 ghost use Rattle.lt_store.specs.TypeNumbers.{GivesType, Enters};
 
-use lt_hol::{Signature, TypeFault, TypeTable};
-use lt_types::{Memory, Name, Ty, Tys};
+use lt_hol::{Outcome, Signature, TypeFault, TypeTable, applied_types};
+use lt_types::{Name, Ty, Tys};
 use std::alloc::Global;
+
+/// The number of a type where it is known, else what is wrong.
+fn number_of(alloc: Global, types: &TypeTable, outcome: Outcome) -> Result<usize, TypeFault>
+    requires { (typed : Result TypeTree Fault) × IsOutcome types.now outcome typed }
+    ensures { (typed : Result TypeTree Fault) → IsOutcome types.now outcome typed → GivesType types.now typed result }
+{
+    match outcome {
+        Outcome::Known(number) => Ok(number),
+        Outcome::Mismatch(f, a) => {
+            let function = types.ty(alloc, f)?;
+            let argument = types.ty(alloc, a)?;
+            Err(TypeFault::Mismatch(function, argument))
+        }
+        Outcome::Wrong(fault) => Err(fault),
+    }
+}
 
 /// The number of a type without fault.
 pub fn checked(
@@ -20,16 +37,13 @@ pub fn checked(
     ensures kept { Extends types.old types.new }
     ensures is { GivesType types.new (unless (type_fault sig.now ty.now) (Ok ty.now)) result }
 {
-    if let Err(fault) = sig.check_type(alloc, ty) {
-        return Err(fault);
-    }
-    let number = types.intern(alloc, ty)?;
-    Ok(number)
+    let outcome = sig.of_type(alloc, types, ty)?;
+    number_of(alloc, types, outcome)
 }
 
 /// The number of a constant's type.
 pub fn constant_number(
-    _alloc: Global,
+    alloc: Global,
     sig: &Signature,
     types: &mut TypeTable,
     name: &Name,
@@ -38,24 +52,17 @@ pub fn constant_number(
     ensures kept { Extends types.old types.new }
     ensures is { GivesType types.new (constant_type sig.now name.now args.now (found name.now sig.now.consts)) result }
 {
-    Err(TypeFault::Memory)
+    let outcome = sig.of_constant(alloc, types, name, args)?;
+    number_of(alloc, types, outcome)
 }
 
 /// The number of the type of an application.
-pub fn applied(_alloc: Global, types: &TypeTable, f: usize, a: usize) -> Result<usize, TypeFault>
+pub fn applied(alloc: Global, types: &TypeTable, f: usize, a: usize) -> Result<usize, TypeFault>
     requires f { f < length types.now }
     requires a { a < length types.now }
     ensures { GivesType types.now (applied_type (type_at types.now f) (type_at types.now a)) result }
 {
-    Err(TypeFault::Memory)
-}
-
-/// The type of a number.
-pub fn numbered(_alloc: Global, types: &TypeTable, number: usize) -> Result<Ty, Memory>
-    requires { number < length types.now }
-    ensures { IfOk result (λ t. t ≡ type_at types.now number) }
-{
-    Err(Memory)
+    number_of(alloc, types, applied_types(types, f, a))
 }
 
 /// The number of the type of a bound name's binder.

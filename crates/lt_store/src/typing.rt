@@ -8,7 +8,6 @@ ghost use Rattle.lt_store.specs.Trees.{tree_at};
 use crate::memo::kept;
 use crate::node::Id;
 use crate::term_store::TermStore;
-use crate::type_numbers::numbered;
 use crate::type_work::{TypeTask, TypeWork};
 use lt_hol::{Signature, TypeFault, TypeTable};
 use lt_types::Ty;
@@ -47,6 +46,6 @@ pub fn type_at<S: TermStore>(
         }
     }
     let number = kept(&work.found, t, no_binders);
-    let ty = numbered(alloc, &work.types, number)?;
+    let ty = work.types.ty(alloc, number)?;
     Ok(ty)
 }

@@ -1,7 +1,6 @@
 pub mod Ascii
 pub mod TypePlaces
 pub mod TypePieces
-pub mod TermPlaces
 pub mod TermPieces
 pub mod OpenBinders
 pub mod ItemHeads

@@ -8,7 +8,7 @@ use Rattle.lt_hol.specs.Layout.{term_size}
 use Rattle.lt_syntax.specs.declared.pieces.Piece.{Piece}
 use Rattle.lt_syntax.specs.declared.pieces.Piece.TheVariants.{Head, Argument, Bracket, End}
 use Rattle.lt_syntax.specs.TermText.{term_front, later_pieces, binders_within}
-use Rattle.lt_syntax.proofs.TermPlaces.{term_at, tree_of, IsWithin, IsPlace}
+use Rattle.lt_hol.proofs.TermPlaces.{term_at, tree_of, IsWithin, IsPlace}
 
 -- what a piece shows under binders, and the binders behind it
 abbrev pub piece_text : List TermNode → List Chars → Piece → Chars

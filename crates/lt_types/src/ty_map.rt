@@ -1,5 +1,5 @@
 //! Maps from type variables to types.
-ghost use Rattle.std.specs.Prelude.{◌≡◌, ◌<◌, [], IfOk, OnOk, OnErr, length, slice_get, option_map, Some};
+ghost use Rattle.std.specs.Prelude.{◌≡◌, ◌<◌, ◌^◌, [], IfOk, OnOk, OnErr, length, slice_get, option_map, Some};
 ghost use Rattle.std.specs.Option.{option_copied};
 ghost use Rattle.lt_definitions.specs.Types.{found};
 ghost use Rattle.lt_types.specs.Maps.{with_pair};
@@ -40,6 +40,14 @@ impl TyMap {
         TyMap {
             pairs: IndexMap::new(alloc),
         }
+    }
+
+    /// How many pairs there are.
+    pub fn len(&self) -> usize
+        ensures len { result ≡ length self.now }
+        ensures small { result < 2 ^ 63 }
+    {
+        self.pairs.len()
     }
 
     /// Sets the pair of a name: in its place where there is one, else at the end.

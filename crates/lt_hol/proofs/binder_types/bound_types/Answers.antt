@@ -1,6 +1,6 @@
 use Rattle.std.proofs.Common.{◌≡◌, ◌∙◌, arith, length, take, map, ap}
 use Rattle.std.proofs.Math.Seq.{take-length}
-use Rattle.lt_hol.specs.Outcomes.{at_binder, binder_type, AreHints}
+use Rattle.lt_hol.specs.Outcomes.{at_binder}
 use Rattle.lt_hol.proofs.TypingSteps.{all-hints}
 use Rattle.lt_hol.proofs.binder_types.bound_types.Goals as goal
 

@@ -1,7 +1,7 @@
 use Rattle.std.proofs.Common.{◌≡◌, ◌∙◌, ◌-◌, [], sym, subst, arith, length, take, reverse, List, Option, ℕ}
 use Rattle.lt_hol.specs.declared.bound_names.Binder.{Binder}
 use Rattle.lt_hol.specs.Layout.{forest}
-use Rattle.lt_hol.proofs.Nodes.{whole}
+use Rattle.lt_hol.proofs.TermNodes.{whole}
 use Rattle.lt_hol.proofs.BinderPasses.{IsFinding, at-end, at-start, some-pending, visited}
 use Rattle.lt_hol.proofs.bound_names.binders.Goals as goal
 

@@ -1,4 +1,4 @@
-use Rattle.std.proofs.Common.{◌≡◌, ◌<◌, ◌∙◌, arith, length, ap, sym, slice_get}
+use Rattle.std.proofs.Common.{◌<◌, ◌∙◌, arith, length, ap, sym, slice_get}
 use Rattle.std.specs.Option.{option_and_then}
 use Rattle.std.proofs.lemmas.Option.{slice_get-get_or}
 use Rattle.lt_hol.specs.Instances.{argument_of}

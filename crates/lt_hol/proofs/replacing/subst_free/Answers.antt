@@ -2,7 +2,7 @@ use Rattle.std.proofs.Common.{◌≡◌, ◌∙◌, ap, subst, sym, map, List, l
 use Rattle.lt_definitions.specs.Terms.{TermTree}
 use Rattle.lt_definitions.specs.Binding.{replaced}
 use Rattle.lt_hol.specs.Layout.{HasRoom, first}
-use Rattle.lt_hol.proofs.Nodes.{step, whole, IsStep}
+use Rattle.lt_hol.proofs.TermNodes.{step, whole, IsStep}
 use Rattle.lt_hol.proofs.Replacements.{room-replaced}
 use Rattle.lt_hol.proofs.replacing.subst_free.Goals as goal
 

@@ -1,4 +1,4 @@
-use Rattle.std.proofs.Common.{◌≡◌, ◌∙◌, ap, subst, true, List, ℕ, IfOk}
+use Rattle.std.proofs.Common.{◌≡◌, ◌∙◌, ap, subst, List, ℕ, IfOk}
 use Rattle.std.specs.Str.{chars}
 use Rattle.lt_types.specs.Lexical.{is_name}
 use Rattle.lt_store.proofs.BinderNames.{binder-word, binder-chars}

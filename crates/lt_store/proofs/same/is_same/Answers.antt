@@ -1,4 +1,4 @@
-use Rattle.std.proofs.Common.{◌≡◌, ◌<◌, length, arith, rules, refl, [], ◌∷◌, false, IsSome, inl, inr}
+use Rattle.std.proofs.Common.{◌≡◌, ◌<◌, length, arith, rules, refl, [], ◌∷◌, IsSome, inl, inr}
 use Rattle.std.proofs.lemmas.Bool.{false≢true}
 use Rattle.std.proofs.lemmas.Grind.{common_steps}
 use Rattle.lt_store.specs.Memos.{result_at}

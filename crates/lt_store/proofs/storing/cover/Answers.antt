@@ -1,4 +1,4 @@
-use Rattle.std.proofs.Common.{◌≡◌, ◌∙◌, ap}
+use Rattle.std.proofs.Common.{◌∙◌, ap}
 use Rattle.lt_definitions.specs.Nameless.{nameless_abstraction}
 use Rattle.lt_store.specs.Trees.{tree_at}
 use Rattle.lt_store.proofs.StoredTerms.{covered_stands}

@@ -1,4 +1,4 @@
-use Rattle.std.proofs.Common.{◌≡◌, [], ℕ, List, ap, sym, subst, refl, length, arith}
+use Rattle.std.proofs.Common.{◌≡◌, [], ℕ, List, sym, subst, refl, length}
 use Rattle.lt_definitions.specs.Nameless.{nameless}
 use Rattle.lt_store.specs.Trees.{AllBelow}
 use Rattle.lt_store.specs.Stacks.{stack}

@@ -1,6 +1,5 @@
-use Rattle.std.proofs.Common.{◌≡◌, ◌∙◌, ap, sym, subst, reverse, ◌∷◌, []}
+use Rattle.std.proofs.Common.{◌∙◌, ap, subst, reverse, ◌∷◌, []}
 use Rattle.std.proofs.lemmas.List.{reverse-append}
-use Rattle.lt_definitions.specs.Types.{TypeTree}
 use Rattle.lt_store.specs.TypeNumbers.{Has}
 use Rattle.lt_store.proofs.TypeNumbers.{extends-within, has-on, has-fun, unless-right}
 use Rattle.lt_store.proofs.type_numbers.enter.Goals as goal

@@ -29,8 +29,8 @@ returns-in-Err g c =
     let was = ap reverse c.in-Some.ensures.items ∙ reverse-append c.pop.new.self.items (c.in-Some.task ∷ []) in
     c.in-Err.ensures _ _ (typing-as _ _ _ _ _ c.loop-task.work.found _ _ _ _ refl (sym was) c.loop-task.invariant)
 
-pub numbered-requires : goal.numbered-requires
-numbered-requires g c =
+pub ty-requires : goal.ty-requires
+ty-requires g c =
     let none : c.loop-task.work.tasks.items ≡ [] = grind (arith, common_steps) in
     has-within _ _ _ (typing_found _ _ _ _ _ c.loop-task.work.found _ _ (ap reverse none) c.loop-task.invariant _ c.kept-number.ensures).has
 

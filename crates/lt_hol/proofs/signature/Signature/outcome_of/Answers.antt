@@ -1,7 +1,6 @@
-use Rattle.std.proofs.Common.{◌≡◌, ◌∷◌, ◌∙◌, ◌+◌, [], ℕ, suc, None, Option, List, arith, take, reverse, get_or, ap, sym, subst}
+use Rattle.std.proofs.Common.{◌≡◌, ◌∙◌, ◌+◌, [], ℕ, suc, None, Option, List, arith, take, reverse, get_or, ap, sym, subst}
 use Rattle.lt_definitions.specs.Types.{TypeTree}
-use Rattle.lt_hol.specs.Outcomes.{AreOutcomes, IsHint, bound_types, typed_step}
-use Rattle.lt_hol.specs.declared.outcome.Outcome.{Outcome}
+use Rattle.lt_hol.specs.Outcomes.{AreOutcomes, IsHint, bound_types}
 use Rattle.lt_hol.proofs.TypingSteps.{typed_stack, stack-next, stack-whole, some-outcome, hint-at-place, hints-later, outcomes-within}
 use Rattle.lt_definitions.specs.Typing.{typed}
 use Rattle.lt_hol.proofs.signature.Signature.outcome_of.Goals as goal

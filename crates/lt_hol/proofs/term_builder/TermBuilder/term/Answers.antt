@@ -1,7 +1,7 @@
 use Rattle.std.proofs.Common.{◌≡◌, ◌∙◌, ◌++◌, sym, ap, subst, List}
 use Rattle.lt_definitions.specs.Terms.{TermTree}
 use Rattle.lt_hol.specs.Layout.{HasRoom, grow}
-use Rattle.lt_hol.proofs.Nodes.{step, whole, room-over, grow-over, IsStep}
+use Rattle.lt_hol.proofs.TermNodes.{step, whole, room-over, grow-over, IsStep}
 use Rattle.lt_hol.proofs.term_builder.TermBuilder.term.Goals as goal
 
 pub node-requires : goal.node-requires

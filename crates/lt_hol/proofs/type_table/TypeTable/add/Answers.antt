@@ -1,5 +1,4 @@
-use Rattle.std.proofs.Common.{◌≡◌, ◌∙◌, refl, [], List, Some, slice_get, length, true, ap, sym, subst}
-use Rattle.std.specs.List.{list_any}
+use Rattle.std.proofs.Common.{◌≡◌, ◌∙◌, refl, [], List, Some, length, true, ap, sym, subst}
 use Rattle.lt_types.specs.contracts.ty.TyNodePartialEq.TheImpl.{eq-value}
 use Rattle.lt_definitions.specs.Types.{TypeTree}
 use Rattle.lt_hol.specs.TypeTables.{made_of, is_below, types_after, Extends}

@@ -1,7 +1,7 @@
-use Rattle.std.proofs.Common.{◌≡◌, ◌∙◌, [], List, Option, ℕ, IfSome, true, arith, length, sym, ap, subst}
+use Rattle.std.proofs.Common.{◌≡◌, ◌∙◌, [], List, true, arith, length, sym, ap, subst}
 use Rattle.std.specs.Option.{option_map}
 use Rattle.lt_definitions.specs.Types.{Chars, TypeTree}
-use Rattle.lt_hol.specs.TypeTables.{type_at, made_of, node_parts, is_below, types_after, function_parts}
+use Rattle.lt_hol.specs.TypeTables.{type_at, made_of, node_parts, is_below, function_parts}
 use Rattle.lt_hol.proofs.DistinctTypes.{length-types_after, type_at-node, below-whole}
 use Rattle.lt_hol.proofs.TypeNumbers.{pair_at, made-parts, BothBelow, parts-below}
 use Rattle.lt_hol.proofs.type_table.TypeTable.as_fun.Goals as goal

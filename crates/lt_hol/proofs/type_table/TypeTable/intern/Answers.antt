@@ -1,4 +1,4 @@
-use Rattle.std.proofs.Common.{◌≡◌, ◌∙◌, [], ◌∷◌, List, take, arith, length, sym, ap, subst}
+use Rattle.std.proofs.Common.{◌≡◌, ◌∙◌, [], ◌∷◌, List, take, arith, sym, ap, subst}
 use Rattle.lt_definitions.specs.Types.{TypeTree}
 use Rattle.lt_types.specs.Layout.{HasRoom, grow, forest}
 use Rattle.lt_types.proofs.Nodes.{step, whole, IsStep}

@@ -1,11 +1,10 @@
-use Rattle.std.proofs.Common.{◌≡◌, ◌∙◌, [], ◌∷◌, List, Option, ℕ, take, map, arith, length, sym, ap, subst, true}
+use Rattle.std.proofs.Common.{◌≡◌, ◌∙◌, [], ◌∷◌, List, take, map, arith, length, sym, ap, subst}
 use Rattle.std.specs.List.{zip}
-use Rattle.std.specs.Option.{ForSome}
-use Rattle.lt_definitions.specs.Types.{Chars, TypeTree, TypeMap, type_instance}
-use Rattle.lt_types.specs.Layout.{HasRoom, grow, forest}
+use Rattle.lt_definitions.specs.Types.{TypeTree, TypeMap, type_instance}
+use Rattle.lt_types.specs.Layout.{HasRoom, forest}
 use Rattle.lt_types.proofs.Nodes.{step, whole, IsStep}
 use Rattle.lt_types.proofs.Substitutions.{room-type_instance}
-use Rattle.lt_hol.specs.TypeTables.{types_at, all_below, Extends}
+use Rattle.lt_hol.specs.TypeTables.{types_at}
 use Rattle.lt_hol.specs.Instances.{grown_by}
 use Rattle.lt_hol.proofs.DistinctTypes.{extends-then, all-more}
 use Rattle.lt_hol.proofs.TypeNumbers.{AreNumbers, one-number, some-number, extends-length}

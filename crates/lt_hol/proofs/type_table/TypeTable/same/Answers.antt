@@ -1,7 +1,6 @@
-use Rattle.std.proofs.Common.{◌≡◌, ap, arith, subst, eq-eqb, List}
+use Rattle.std.proofs.Common.{◌≡◌, ap, arith, subst, eq-eqb}
 use Rattle.std.proofs.lemmas.Bool.Decides.{nat_tests}
 use Rattle.std.proofs.lemmas.Grind.{common_steps}
-use Rattle.lt_definitions.specs.Types.{TypeTree}
 use Rattle.lt_hol.specs.TypeTables.{type_at, IsApart}
 use Rattle.lt_hol.proofs.type_table.TypeTable.same.Goals as goal
 

@@ -2,7 +2,6 @@ use Rattle.std.proofs.Common.{◌≡◌, ◌∙◌, ◌∷◌, ◌++◌, ◌<◌
 use Rattle.lt_definitions.specs.Types.{TypeTree}
 use Rattle.lt_hol.specs.declared.read_type.Making.{Making}
 use Rattle.lt_hol.specs.declared.read_type.Making.TheVariants.{Whole, Root}
-use Rattle.lt_hol.specs.Makings.{numbers_of, wholes}
 use Rattle.lt_hol.specs.TypeTables.{type_at}
 use Rattle.lt_hol.proofs.ReadTypes.{IsMaking, work, arity_of, rooted, rooted-node, room-node, expand, expand-less, taken}
 use Rattle.lt_hol.proofs.type_table.TypeTable.ty.Goals as goal

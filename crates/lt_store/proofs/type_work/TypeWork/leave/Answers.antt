@@ -1,4 +1,4 @@
-use Rattle.std.proofs.Common.{◌≡◌, ◌∷◌, [], ◌∙◌, ap, arith, reverse}
+use Rattle.std.proofs.Common.{◌∷◌, [], ◌∙◌, ap, arith, reverse}
 use Rattle.std.proofs.lemmas.List.{reverse-append}
 use Rattle.lt_store.proofs.TypeNumbers.{has-within}
 use Rattle.lt_store.proofs.TypeTasks.{leave_some, body_type, leave_found}

@@ -1,0 +1,47 @@
+use Rattle.std.proofs.Common.{◌≡◌, ◌++◌, ◌∷◌, [], ◌∙◌, List, ap, subst, sym, length, refl, Ok, Err}
+use Rattle.lt_definitions.specs.NamelessRules.{nameless_step}
+use Rattle.lt_kernel.specs.declared.sequent.Step.{Step}
+use Rattle.lt_kernel.specs.Lines.{rule_at}
+use Rattle.lt_kernel.specs.Sequents.{sequents_at, statements_at, Gives}
+use Rattle.lt_kernel.specs.State.{State, Keeps, AddsLine, Answers, step_of}
+use Rattle.lt_kernel.proofs.States.{state, keeps, adds-line, answers-fault, answers-memory}
+use Rattle.lt_kernel.proofs.proof.Proof.apply.Goals as goal
+
+pub returns-in-Err : goal.returns-in-Err
+returns-in-Err g c =
+    let inside = c.self.inside in
+    let old = g.S.TermStore.nodes inside.store in
+    let new = g.S.TermStore.nodes c.derive.new.store in
+    let steps = inside.steps.items in
+    let OverSteps : List Step → Type 0 = λ k. Gives new (Err c.in-Err.fault) (nameless_step inside.signature (statements_at old inside.named.entries) (sequents_at old k) (rule_at old c.args.line.now)) in
+    let made = subst OverSteps c.as_slice.ensures.value c.in-Err.ensures.step in
+    let AtOld : State → Type 0 = λ p. Answers p (state new inside.signature inside.named.entries steps) c.args.line.now (Err c.in-Err.fault) (step_of p c.args.line.now) in
+    subst AtOld c.self.view_is (answers-fault (state old inside.signature inside.named.entries steps) (state new inside.signature inside.named.entries steps) c.args.line.now c.in-Err.fault _ made
+    (keeps old new inside.signature inside.named.entries steps c.in-Err.ensures.kept c.self.invariant.steps c.self.invariant.named))
+
+pub returns-in_err-number : goal.returns-in_err-number
+returns-in_err-number g c =
+    let inside = c.self.inside in
+    let old = g.S.TermStore.nodes inside.store in
+    let new = g.S.TermStore.nodes c.derive.new.store in
+    let steps = inside.steps.items in
+    let AtNew : List Step → Type 0 = λ k. Keeps (state old inside.signature inside.named.entries steps) (state new inside.signature inside.named.entries k) in
+    let kept = subst AtNew (sym c.in_err-number.ensures.err) (keeps old new inside.signature inside.named.entries steps c.in-Ok.ensures.kept c.self.invariant.steps c.self.invariant.named) in
+    let AtOld : State → Type 0 = λ p. Answers p (state new inside.signature inside.named.entries c.add_step.new.steps.items) c.args.line.now c.from_residual.result (step_of p c.args.line.now) in
+    subst AtOld c.self.view_is (answers-memory (state old inside.signature inside.named.entries steps) (state new inside.signature inside.named.entries c.add_step.new.steps.items) c.args.line.now c.from_residual.result _ c.from_residual.ensures.1 kept)
+
+pub returns : goal.returns
+returns g c =
+    let inside = c.self.inside in
+    let old = g.S.TermStore.nodes inside.store in
+    let new = g.S.TermStore.nodes c.derive.new.store in
+    let steps = inside.steps.items in
+    let step : Step = record { line = c.args.line.now; sequent = c.in-Ok.sequent } in
+    let outcome = λ (k : List Step). nameless_step inside.signature (statements_at old inside.named.entries) (sequents_at old k) (rule_at old c.args.line.now) in
+    let OverSteps : List Step → Type 0 = λ k. Gives new (Ok c.in-Ok.sequent) (outcome k) in
+    let made = subst OverSteps c.as_slice.ensures.value c.in-Ok.ensures.step in
+    let number : c.in_ok-number.number ≡ length (steps ++ step ∷ []) = c.in_ok-number.ensures.number ∙ ap length c.in_ok-number.ensures.ok in
+    let added = adds-line old new inside.signature inside.named.entries steps step c.args.line.now (outcome steps) c.in_ok-number.number c.in-Ok.ensures.kept c.self.invariant.steps c.self.invariant.named refl made number in
+    let AtNew : List Step → Type 0 = λ k. AddsLine (state old inside.signature inside.named.entries steps) (state new inside.signature inside.named.entries k) c.args.line.now (outcome steps) c.in_ok-number.number in
+    let AtOld : State → Type 0 = λ p. AddsLine p (state new inside.signature inside.named.entries c.add_step.new.steps.items) c.args.line.now (step_of p c.args.line.now) c.in_ok-number.number in
+    subst AtOld c.self.view_is (subst AtNew (sym c.in_ok-number.ensures.ok) added)

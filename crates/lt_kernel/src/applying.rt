@@ -1,0 +1,50 @@
+//! The rule on equal functions applied to equal arguments: `cong`.
+ghost use Rattle.std.specs.Prelude.{◌≡◌, length};
+ghost use Rattle.lt_definitions.specs.NamelessRules.{nameless_cong_gives};
+ghost use Rattle.lt_store.specs.Trees.{Extends};
+ghost use Rattle.lt_kernel.specs.Sequents.{sequents_at, AreWithin, Gives};
+
+use crate::function_types::joined_type;
+use crate::hyps::union;
+use crate::making_more::mk_applied_equation;
+use crate::rule_fault::RuleFault;
+use crate::sequent::{Sequent, Step};
+use crate::shapes::as_equation;
+use crate::steps::sequent_at;
+use lt_hol::Reason;
+use lt_store::TermStore;
+use std::alloc::Global;
+
+/// From `H |- f = g` and `K |- a = b`: `H, K |- f a = g b`
+pub fn cong<S: TermStore>(
+    alloc: Global,
+    store: &mut S,
+    done: &[Step],
+    i: usize,
+    j: usize,
+) -> Result<Sequent, RuleFault>
+    requires { AreWithin (length (S.nodes store.old)) done.now }
+    ensures kept { Extends (S.nodes store.old) (S.nodes store.new) }
+    ensures step { Gives (S.nodes store.new) result (nameless_cong_gives (sequents_at (S.nodes store.old) done.now) i j) }
+{
+    let Some(first) = sequent_at(store, done, i) else {
+        return Err(RuleFault::Bad(Reason::MissingLine));
+    };
+    let Some(second) = sequent_at(store, done, j) else {
+        return Err(RuleFault::Bad(Reason::MissingLine));
+    };
+    let Some(functions) = as_equation(alloc, store, first.concl)? else {
+        return Err(RuleFault::Bad(Reason::NotEquation));
+    };
+    let Some(arguments) = as_equation(alloc, store, second.concl)? else {
+        return Err(RuleFault::Bad(Reason::NotEquation));
+    };
+    let Some(ty) = joined_type(alloc, &functions.ty, &arguments.ty)? else {
+        return Err(RuleFault::Bad(Reason::TypeDiffers));
+    };
+    let (f, a) = (functions.left, arguments.left);
+    let (g, b) = (functions.right, arguments.right);
+    let hyps = union(alloc, store, &first.hyps, &second.hyps)?;
+    let concl = mk_applied_equation(alloc, store, ty, f, a, g, b)?;
+    Ok(Sequent { hyps, concl })
+}

@@ -1,0 +1,69 @@
+//! The rules on implications: `impI` and `mp`.
+ghost use Rattle.std.specs.Prelude.{◌≡◌, ◌<◌, length, None};
+ghost use Rattle.lt_definitions.specs.NamelessRules.{nameless_fault, nameless_impI_gives, nameless_mp_gives};
+ghost use Rattle.lt_store.specs.Trees.{tree_at, Extends};
+ghost use Rattle.lt_kernel.specs.Sequents.{sequents_at, AreWithin, Gives};
+
+use crate::hyps::{are_same, union, without};
+use crate::making::mk_implies;
+use crate::rule_fault::RuleFault;
+use crate::sequent::{Sequent, Step};
+use crate::shapes::as_implication;
+use crate::steps::sequent_at;
+use crate::typing::is_boolean;
+use lt_hol::{Reason, Signature};
+use lt_store::{Id, TermStore};
+use std::alloc::Global;
+
+/// From `H |- q`: `H` without `p |- p --> q`
+pub fn impI<S: TermStore>(
+    alloc: Global,
+    store: &mut S,
+    sig: &Signature,
+    done: &[Step],
+    p: Id,
+    i: usize,
+) -> Result<Sequent, RuleFault>
+    requires done { AreWithin (length (S.nodes store.old)) done.now }
+    requires p { p < length (S.nodes store.old) }
+    requires typed { nameless_fault sig.now (tree_at (S.nodes store.old) p) ≡ None }
+    ensures kept { Extends (S.nodes store.old) (S.nodes store.new) }
+    ensures step { Gives (S.nodes store.new) result (nameless_impI_gives sig.now (sequents_at (S.nodes store.old) done.now) (tree_at (S.nodes store.old) p) i) }
+{
+    let Some(from) = sequent_at(store, done, i) else {
+        return Err(RuleFault::Bad(Reason::MissingLine));
+    };
+    if !is_boolean(alloc, store, sig, p)? {
+        return Err(RuleFault::Bad(Reason::NotBool));
+    }
+    let hyps = without(alloc, store, p, &from.hyps)?;
+    let concl = mk_implies(alloc, store, p, from.concl)?;
+    Ok(Sequent { hyps, concl })
+}
+
+/// From `H |- p --> q` and `K |- p`: `H, K |- q`
+pub fn mp<S: TermStore>(
+    alloc: Global,
+    store: &S,
+    done: &[Step],
+    i: usize,
+    j: usize,
+) -> Result<Sequent, RuleFault>
+    requires { AreWithin (length (S.nodes store.now)) done.now }
+    ensures { Gives (S.nodes store.now) result (nameless_mp_gives (sequents_at (S.nodes store.now) done.now) i j) }
+{
+    let Some(major) = sequent_at(store, done, i) else {
+        return Err(RuleFault::Bad(Reason::MissingLine));
+    };
+    let Some(minor) = sequent_at(store, done, j) else {
+        return Err(RuleFault::Bad(Reason::MissingLine));
+    };
+    let Some((p, q)) = as_implication(store, major.concl) else {
+        return Err(RuleFault::Bad(Reason::NotImplication));
+    };
+    if !are_same(alloc, store, p, minor.concl)? {
+        return Err(RuleFault::Bad(Reason::MiddleDiffers));
+    }
+    let hyps = union(alloc, store, &major.hyps, &minor.hyps)?;
+    Ok(Sequent { hyps, concl: q })
+}

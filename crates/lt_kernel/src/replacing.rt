@@ -1,0 +1,103 @@
+//! The rules that replace variables: `inst` and `tinst`.
+ghost use Rattle.std.specs.Prelude.{◌≡◌, ◌<◌, ◌∷◌, [], length, None, IfOk};
+ghost use Rattle.lt_definitions.specs.NamelessRules.{nameless_fault, nameless_replaced, nameless_inst_gives, nameless_tinst_gives};
+ghost use Rattle.lt_store.specs.Trees.{tree_at, Extends};
+ghost use Rattle.lt_kernel.specs.Sequents.{sequents_at, AreWithin, Gives};
+
+use crate::hyps::{one, union};
+use crate::rule_fault::RuleFault;
+use crate::sequent::{Sequent, Step};
+use crate::steps::sequent_at;
+use crate::typing::has_type;
+use lt_hol::{Ids, Memory, Name, Reason, Signature, TryCopy, Ty, TyMap};
+use lt_store::{Id, TermStore, replace_free, type_instance, type_instances};
+use std::alloc::Global;
+
+/// From `H |- p`: `H |- p`, everywhere with `t` in place of the variable `x`
+pub fn inst<S: TermStore>(
+    alloc: Global,
+    store: &mut S,
+    sig: &Signature,
+    done: &[Step],
+    x: &Name,
+    ty: &Ty,
+    t: Id,
+    i: usize,
+) -> Result<Sequent, RuleFault>
+    requires done { AreWithin (length (S.nodes store.old)) done.now }
+    requires t { t < length (S.nodes store.old) }
+    requires typed { nameless_fault sig.now (tree_at (S.nodes store.old) t) ≡ None }
+    ensures kept { Extends (S.nodes store.old) (S.nodes store.new) }
+    ensures step { Gives (S.nodes store.new) result (nameless_inst_gives sig.now (sequents_at (S.nodes store.old) done.now) x.now ty.now (tree_at (S.nodes store.old) t) i) }
+{
+    let Some(from) = sequent_at(store, done, i) else {
+        return Err(RuleFault::Bad(Reason::MissingLine));
+    };
+    if !has_type(alloc, store, sig, t, ty)? {
+        return Err(RuleFault::Bad(Reason::TypeDiffers));
+    }
+    let each = replace_free(alloc, store, from.hyps.as_slice(), x, ty, t)?;
+    let hyps = union(alloc, store, &Ids::new(alloc), &each)?;
+    let concl = replaced(alloc, store, from.concl, x, ty, t)?;
+    Ok(Sequent { hyps, concl })
+}
+
+/// From `H |- p`: `H |- p`, everywhere with the type `ty` in place of the type variable `a`
+pub fn tinst<S: TermStore>(
+    alloc: Global,
+    store: &mut S,
+    done: &[Step],
+    a: &Name,
+    ty: &Ty,
+    i: usize,
+) -> Result<Sequent, RuleFault>
+    requires { AreWithin (length (S.nodes store.old)) done.now }
+    ensures kept { Extends (S.nodes store.old) (S.nodes store.new) }
+    ensures step { Gives (S.nodes store.new) result (nameless_tinst_gives (sequents_at (S.nodes store.old) done.now) a.now ty.now i) }
+{
+    let Some(from) = sequent_at(store, done, i) else {
+        return Err(RuleFault::Bad(Reason::MissingLine));
+    };
+    let by = one_pair(alloc, a, ty)?;
+    let each = type_instances(alloc, store, from.hyps.as_slice(), &by)?;
+    let hyps = union(alloc, store, &Ids::new(alloc), &each)?;
+    let concl = type_instance(alloc, store, from.concl, &by)?;
+    Ok(Sequent { hyps, concl })
+}
+
+/// A term with `by` in place of a free variable.
+fn replaced<S: TermStore>(
+    alloc: Global,
+    store: &mut S,
+    t: Id,
+    x: &Name,
+    ty: &Ty,
+    by: Id,
+) -> Result<Id, Memory>
+    requires t { t < length (S.nodes store.old) }
+    requires by { by < length (S.nodes store.old) }
+    ensures kept { Extends (S.nodes store.old) (S.nodes store.new) }
+    ensures made { IfOk result (λ r. r < length (S.nodes store.new)) }
+    ensures is { IfOk result (λ r. tree_at (S.nodes store.new) r ≡ nameless_replaced x.now ty.now (tree_at (S.nodes store.old) by) (tree_at (S.nodes store.old) t)) }
+{
+    let ts = one(alloc, t)?;
+    let made = replace_free(alloc, store, ts.as_slice(), x, ty, by)?;
+    Ok(only(&made))
+}
+
+/// The only one of some ids.
+fn only(ids: &Ids) -> Id
+    requires { length ids.now ≡ 1 }
+    ensures { ids.now ≡ result ∷ [] }
+{
+    *ids.at(0)
+}
+
+/// The map of one type variable.
+fn one_pair(alloc: Global, a: &Name, ty: &Ty) -> Result<TyMap, Memory>
+    ensures { IfOk result (λ m. m ≡ (a.now, ty.now) ∷ []) }
+{
+    let mut map = TyMap::new(alloc);
+    map.put(alloc, a.copy(alloc)?, ty.copy(alloc)?)?;
+    Ok(map)
+}

@@ -1,8 +1,0 @@
-use Rattle.std.proofs.Common.{◌≤◌, length}
-use Rattle.lt_run.proofs.reader.Reader.ty.Given as goal
-
-abbrev pub invariant-tokens : goal.invariant-tokens
-invariant-tokens l = length l.self.lexer.ahead ≤ length l.fn.self.lexer.ahead
-
-abbrev pub decreases-tokens : goal.decreases-tokens
-decreases-tokens l = length l.self.lexer.ahead

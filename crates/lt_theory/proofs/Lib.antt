@@ -1,0 +1,5 @@
+pub mod ClosedTerms
+pub mod Known
+pub mod StoredLines
+pub mod LineOutcomes
+pub mod Tested

@@ -1,0 +1,18 @@
+use Rattle.lt_hol.specs.Lines.{trees, rule_of}
+use Rattle.lt_theory.proofs.LineOutcomes.{line-added, line-bad, line-refused}
+use Rattle.lt_theory.proofs.derivation.add_line.Goals as goal
+
+pub returns-in-Err-clause-derives : goal.returns-in-Err-clause-derives
+returns-in-Err-clause-derives c = λ ctx done stands has.
+    line-refused ctx done (rule_of (trees c.args.lines.now.nodes) c.args.line.now) c.args.proof.now c.store_line.new.proof c.store_line.new.proof.nodes c.in-Err.fault
+    stands c.in-Err.ensures.stores
+
+pub returns-in-Ok-apply-clause-derives : goal.returns-in-Ok-apply-clause-derives
+returns-in-Ok-apply-clause-derives c = λ ctx done stands has.
+    line-added ctx done (rule_of (trees c.args.lines.now.nodes) c.args.line.now) c.args.proof.now c.store_line.new.proof c.apply.new.self c.in-Ok.stored c.in-Ok-apply.number
+    stands has c.in-Ok.ensures.kept c.in-Ok.ensures.stores c.in-Ok-apply.ensures
+
+pub returns-in-Err-Bad-clause-derives : goal.returns-in-Err-Bad-clause-derives
+returns-in-Err-Bad-clause-derives c = λ ctx done stands has. let told = rw c.in-Err-Bad.field-0-is at c.in-Err-Bad.ensures in
+    line-bad ctx done (rule_of (trees c.args.lines.now.nodes) c.args.line.now) c.args.proof.now c.store_line.new.proof c.apply.new.self c.in-Ok.stored c.in-Err-Bad.field-0-0
+    stands has c.in-Ok.ensures.kept c.in-Ok.ensures.stores told.0

@@ -1,0 +1,38 @@
+-- What it is to put the types and terms of a line into a store.
+use Rattle.std.specs.Prelude.{◌≡◌, ℕ, ◌<◌, List, [], length, None, IsSome, Result, Ok, Err}
+use Rattle.lt_definitions.specs.Terms.{TermTree}
+use Rattle.lt_definitions.specs.Typing.{Signature}
+use Rattle.lt_definitions.specs.Rules.{Rule}
+use Rattle.lt_definitions.specs.Derivations.{term_fault, rule_fault}
+use Rattle.lt_definitions.specs.Nameless.{nameless}
+use Rattle.lt_definitions.specs.NamelessRules.{nameless_rule}
+use Rattle.lt_hol.specs.declared.line.Line.{Line}
+use Rattle.lt_store.specs.declared.node.Node.{Node}
+use Rattle.lt_store.specs.Trees.{tree_at}
+use Rattle.lt_kernel.specs.Lines.{rule_at, IsGoodLine}
+use Rattle.lt_theory.specs.declared.fault.Fault.{Fault}
+use Rattle.lt_theory.specs.declared.fault.Fault.TheVariants.{Refused, Memory}
+
+-- The id stands for a term without a fault.
+pub record IsStored (sig : Signature) (nodes : List Node) (t : TermTree) (id : ℕ) : Type 0 where
+  pub within : id < length nodes
+  pub is : tree_at nodes id ≡ nameless [] t
+  pub typed : term_fault sig t ≡ None
+
+-- the term is stored, or has a fault
+abbrev pub StoresTerm : Signature → List Node → TermTree → Result ℕ Fault → Type 0
+StoresTerm sig nodes t (Ok id) = IsStored sig nodes t id
+StoresTerm sig nodes t (Err Refused) = IsSome (term_fault sig t)
+StoresTerm sig nodes t (Err Memory) = Unit {0}
+
+-- The line's terms are ids; it stands for a rule whose types and terms have no fault.
+pub record IsStoredLine (sig : Signature) (nodes : List Node) (rule : Rule) (line : Line) : Type 0 where
+  pub good : IsGoodLine sig nodes line
+  pub is : rule_at nodes line ≡ nameless_rule rule
+  pub typed : rule_fault sig rule ≡ None
+
+-- the line is stored, or has a fault
+abbrev pub StoresLine : Signature → List Node → Rule → Result Line Fault → Type 0
+StoresLine sig nodes rule (Ok line) = IsStoredLine sig nodes rule line
+StoresLine sig nodes rule (Err Refused) = IsSome (rule_fault sig rule)
+StoresLine sig nodes rule (Err Memory) = Unit {0}
