@@ -1,4 +1,6 @@
 //! The calls beside the rules.
+ghost use Rattle.std.specs.Prelude.{◌<◌, length, IfOk};
+
 use crate::tests::lines::{declared, put, same};
 use crate::tests::machine::{name, parts, plain_type};
 use crate::{Proof, RuleFault};
@@ -9,9 +11,11 @@ use std::process::Abort;
 use std::test::Fail;
 
 /// The id of the term of a text.
-fn id(alloc: Global, proof: &mut Proof<PlainStore>, text: &str) -> Result<Id, Fail> {
+fn id(alloc: Global, proof: &mut Proof<PlainStore>, text: &str) -> Result<Id, Fail>
+    ensures { IfOk result (λ t. t < length proof.new.nodes) }
+{
     let (_, term) = parts(alloc, text)?;
-    put(alloc, proof, &term)
+    Ok(put(alloc, proof, &term)?)
 }
 
 /// Names the constant `p`.

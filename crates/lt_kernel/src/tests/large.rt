@@ -1,56 +1,108 @@
 //! Long terms, and terms whose trees are larger than any memory.
-use crate::Proof;
-use crate::tests::lines::{declared, derive, gives, put, same};
-use crate::tests::machine::parts;
-use lt_hol::Term;
-use lt_store::{Id, PlainStore, TermStore};
+ghost use Rattle.std.specs.Prelude.{◌≡◌, ◌<◌, [], length, codes, Ok as Fine, IfOk};
+ghost use Rattle.lt_definitions.specs.Types.{bool, fun};
+ghost use Rattle.lt_definitions.specs.Typing.{built_in};
+ghost use Rattle.lt_definitions.specs.Nameless.{nameless_constant};
+ghost use Rattle.lt_definitions.specs.NamelessRules.{nameless_typed};
+ghost use Rattle.lt_store.specs.Trees.{tree_at, Extends};
+
+use crate::tests::lines::{declared, derive, same};
+use crate::tests::machine::name;
+use crate::{Proof, RuleFault};
+use lt_hol::{List, Memory, Name, Signature, Ty};
+use lt_store::{Id, PlainStore, TermStore, View};
 use std::alloc::Global;
 use std::test::Fail;
 
-/// The text of 100,000 nested implications of a variable.
-fn chain(alloc: Global) -> Result<String, Fail> {
-    let mut text = "IBx.".repeat(alloc, 100_000)?;
-    text.push_str("Bx")?;
-    text.push_str(".".repeat(alloc, 100_000)?.as_str())?;
-    Ok(text)
+/// A variable of type `bool`.
+fn variable<S: TermStore>(alloc: Global, store: &mut S, text: &str) -> Result<Id, Fail>
+    ensures kept { Extends (S.nodes store.old) (S.nodes store.new) }
+    ensures made { IfOk result (λ x. x < length (S.nodes store.new)) }
+    ensures typed { IfOk result (λ x. nameless_typed built_in [] (tree_at (S.nodes store.new) x) ≡ Fine bool) }
+{
+    let name = name(alloc, text)?;
+    let ty = Ty::bool(alloc)?;
+    let made = store.mk_free(alloc, name, ty)?;
+    Ok(made)
 }
 
-/// The line of `|- p --> p`.
-fn discharged<S: TermStore + Drop>(
+/// The constant `imp`.
+fn implication<S: TermStore>(alloc: Global, store: &mut S) -> Result<Id, Memory>
+    ensures kept { Extends (S.nodes store.old) (S.nodes store.new) }
+    ensures made { IfOk result (λ r. r < length (S.nodes store.new)) }
+    ensures is { IfOk result (λ r. tree_at (S.nodes store.new) r ≡ nameless_constant (codes "imp") []) }
+{
+    let name = Name::word(alloc, "imp")?;
+    let made = store.mk_const(alloc, name, List::new(alloc))?;
+    Ok(made)
+}
+
+/// `imp p`
+fn premise<S: TermStore>(alloc: Global, store: &mut S, p: Id) -> Result<Id, Memory>
+    requires p { p < length (S.nodes store.old) }
+    requires typed { nameless_typed built_in [] (tree_at (S.nodes store.old) p) ≡ Fine bool }
+    ensures kept { Extends (S.nodes store.old) (S.nodes store.new) }
+    ensures made { IfOk result (λ r. r < length (S.nodes store.new)) }
+    ensures typed { IfOk result (λ r. nameless_typed built_in [] (tree_at (S.nodes store.new) r) ≡ Fine (fun bool bool)) }
+{
+    let imp = implication(alloc, store)?;
+    let made = store.mk_app(alloc, imp, p)?;
+    Ok(made)
+}
+
+/// 100,000 nested implications of a variable.
+fn chain<S: TermStore>(alloc: Global, store: &mut S, text: &str) -> Result<Id, Fail>
+    ensures made { IfOk result (λ r. r < length (S.nodes store.new)) }
+    ensures typed { IfOk result (λ r. nameless_typed built_in [] (tree_at (S.nodes store.new) r) ≡ Fine bool) }
+{
+    let x = variable(alloc, store, text)?;
+    let half = premise(alloc, store, x)?;
+    let mut chain = x;
+    for _link in 0..100_000 {
+        let made = store.mk_app(alloc, half, chain)?;
+        chain = made;
+    }
+    Ok(chain)
+}
+
+/// Lines 1 and 2, `p |- p` and `|- p --> p`.
+fn discharge<S: TermStore + Drop>(
     alloc: Global,
     proof: &mut Proof<S>,
-    term: &Term,
-) -> Result<usize, Fail> {
-    let p = put(alloc, proof, term)?;
+    p: Id,
+) -> Result<(), RuleFault>
+    requires signature { proof.old.signature ≡ built_in }
+    requires p { p < length proof.old.nodes }
+    requires typed { nameless_typed built_in [] (tree_at proof.old.nodes p) ≡ Fine bool }
+{
     let assumed = proof.assume(alloc, p)?;
-    Ok(proof.impI(alloc, p, assumed)?)
+    proof.impI(alloc, p, assumed)?;
+    Ok(())
 }
 
-/// The conclusion of a line that has no hypotheses.
-fn proved<S: TermStore + Drop>(proof: &Proof<S>, number: usize) -> Result<Id, Fail> {
+/// What the conclusion of a line without hypotheses implies.
+fn implied<S: TermStore + Drop>(proof: &Proof<S>, number: usize) -> Result<Id, Fail> {
     let sequent = proof.sequent(number).ok_or("no line")?;
     if sequent.hyps.len() != 0 {
         return Err("a hypothesis".into());
     }
-    Ok(sequent.concl)
+    match proof.view(sequent.concl) {
+        View::App(_, q) => Ok(q),
+        _ => Err("no implication".into()),
+    }
 }
 
-/// A variable is replaced by another and back.
 #[test]
 fn a_long_chain_is_discharged_and_instantiated(rt: HostRuntime) -> Result<(), Fail> {
     let alloc = rt.alloc();
-    let mut proof = declared(alloc, PlainStore::new(alloc))?;
-    let (_, term) = parts(alloc, chain(alloc)?.as_str())?;
-    let first = discharged(alloc, &mut proof, &term)?;
-    let second = derive(alloc, &mut proof, ("inst", "x", "B By", first, 0))??;
-    let third = derive(alloc, &mut proof, ("inst", "y", "B Bx", second, 0))??;
-    let (first, second, third) = (
-        proved(&proof, first)?,
-        proved(&proof, second)?,
-        proved(&proof, third)?,
-    );
-    assert!(rt; !same(alloc, &proof, first, second)?);
-    assert!(rt; same(alloc, &proof, first, third)?);
+    let mut store = PlainStore::new(alloc);
+    let wanted = chain(alloc, &mut store, "y")?;
+    let p = chain(alloc, &mut store, "x")?;
+    let mut proof = Proof::new(alloc, Signature::new(alloc)?, store);
+    discharge(alloc, &mut proof, p)?;
+    derive(alloc, &mut proof, ("inst", "x", "B By", 2, 0))??;
+    let q = implied(&proof, 3)?;
+    assert!(rt; same(alloc, &proof, q, wanted)?);
     Ok(())
 }
 

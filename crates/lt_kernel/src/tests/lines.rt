@@ -36,8 +36,9 @@ pub fn put<S: TermStore + Drop>(
     ensures within { IfOk result (λ t. t < length proof.new.nodes) }
     ensures typed { IfOk result (λ t. nameless_fault proof.new.signature (tree_at proof.new.nodes t) ≡ None) }
 {
-    proof.signature().type_of(alloc, term)?;
-    Ok(proof.add_term(alloc, term)?)
+    let _ty = proof.signature().type_of(alloc, term)?;
+    let made = proof.add_term(alloc, term)?;
+    Ok(made)
 }
 
 /// What a line gives.
