@@ -74,22 +74,81 @@ fn call<S: TermStore + Drop>(
         "assume" => proof.assume(alloc, t),
         "weaken" => proof.weaken(alloc, t, i),
         "refl" => proof.refl(alloc, t),
+        "beta" => proof.beta(alloc, t),
+        "eta" => proof.eta(alloc, t),
+        _ => call_of_lines(alloc, proof, rule, x, ty, t, i, j),
+    }
+}
+
+/// The call of a rule that is given lines alone.
+fn call_of_lines<S: TermStore + Drop>(
+    alloc: Global,
+    proof: &mut Proof<S>,
+    rule: &str,
+    x: Name,
+    ty: Ty,
+    t: Id,
+    i: usize,
+    j: usize,
+) -> Result<usize, RuleFault>
+    requires ty { type_fault proof.old.signature ty ≡ None }
+    requires t { t < length proof.old.nodes }
+    requires typed { nameless_fault proof.old.signature (tree_at proof.old.nodes t) ≡ None }
+{
+    match rule {
         "sym" => proof.sym(alloc, i),
         "trans" => proof.trans(alloc, i, j),
         "cong" => proof.cong(alloc, i, j),
-        "abs" => proof.abs(alloc, x, ty, i),
-        "beta" => proof.beta(alloc, t),
-        "eta" => proof.eta(alloc, t),
         "eqmp" => proof.eqmp(alloc, i, j),
-        "impI" => proof.impI(alloc, t, i),
         "mp" => proof.mp(alloc, i, j),
-        "allI" => proof.allI(alloc, x, ty, i),
-        "allE" => proof.allE(alloc, t, i),
         "iff" => proof.iff(alloc, i, j),
-        "inst" => proof.inst(alloc, x, ty, t, i),
-        "tinst" => proof.tinst(alloc, x, ty, i),
+        _ => call_of_term(alloc, proof, rule, x, ty, t, i, j),
+    }
+}
+
+/// The call of a rule that is given a term, and of `select` and `ccontr`.
+fn call_of_term<S: TermStore + Drop>(
+    alloc: Global,
+    proof: &mut Proof<S>,
+    rule: &str,
+    x: Name,
+    ty: Ty,
+    t: Id,
+    i: usize,
+    j: usize,
+) -> Result<usize, RuleFault>
+    requires ty { type_fault proof.old.signature ty ≡ None }
+    requires t { t < length proof.old.nodes }
+    requires typed { nameless_fault proof.old.signature (tree_at proof.old.nodes t) ≡ None }
+{
+    match rule {
+        "impI" => proof.impI(alloc, t, i),
+        "allE" => proof.allE(alloc, t, i),
         "select" => proof.select(alloc, t),
         "ccontr" => proof.ccontr(alloc, t),
+        _ => call_of_name(alloc, proof, rule, x, ty, t, i),
+    }
+}
+
+/// The call of a rule that is given a name.
+fn call_of_name<S: TermStore + Drop>(
+    alloc: Global,
+    proof: &mut Proof<S>,
+    rule: &str,
+    x: Name,
+    ty: Ty,
+    t: Id,
+    i: usize,
+) -> Result<usize, RuleFault>
+    requires ty { type_fault proof.old.signature ty ≡ None }
+    requires t { t < length proof.old.nodes }
+    requires typed { nameless_fault proof.old.signature (tree_at proof.old.nodes t) ≡ None }
+{
+    match rule {
+        "abs" => proof.abs(alloc, x, ty, i),
+        "allI" => proof.allI(alloc, x, ty, i),
+        "inst" => proof.inst(alloc, x, ty, t, i),
+        "tinst" => proof.tinst(alloc, x, ty, i),
         _ => proof.thm(alloc, x),
     }
 }
