@@ -17,14 +17,57 @@ pub type Given<'a> = (&'a str, &'a str, &'a str, usize, usize);
 
 /// A proof over the type `nat` and the constants `p`, `q`, `z` and `s`.
 pub fn declared<S: TermStore + Drop>(alloc: Global, store: S) -> Result<Proof<S>, Fail> {
-    let mut proof = Proof::new(alloc, Signature::new(alloc)?, store);
-    proof.add_type(alloc, name(alloc, "nat")?, 0)?;
-    for (text, ty) in [("p", "bool"), ("q", "bool"), ("z", "nat")] {
-        proof.add_const(alloc, name(alloc, text)?, plain_type(alloc, ty)?)?;
-    }
-    let ty = Ty::fun(alloc, plain_type(alloc, "nat")?, plain_type(alloc, "nat")?)?;
-    proof.add_const(alloc, name(alloc, "s")?, ty)?;
+    let signature = Signature::new(alloc)?;
+    let mut proof = Proof::new(alloc, signature, store);
+    declare(alloc, &mut proof)?;
     Ok(proof)
+}
+
+fn declare<S: TermStore + Drop>(alloc: Global, proof: &mut Proof<S>) -> Result<(), Fail> {
+    declare_type(alloc, proof, "nat")?;
+    declare_constant(alloc, proof, "p", "bool")?;
+    declare_constant(alloc, proof, "q", "bool")?;
+    declare_constant(alloc, proof, "z", "nat")?;
+    declare_function(alloc, proof, "s", "nat")
+}
+
+/// Declares a type without arguments.
+pub fn declare_type<S: TermStore + Drop>(
+    alloc: Global,
+    proof: &mut Proof<S>,
+    text: &str,
+) -> Result<(), Fail> {
+    let name = name(alloc, text)?;
+    proof.add_type(alloc, name, 0)?;
+    Ok(())
+}
+
+/// Declares a constant of a type without arguments.
+pub fn declare_constant<S: TermStore + Drop>(
+    alloc: Global,
+    proof: &mut Proof<S>,
+    text: &str,
+    of: &str,
+) -> Result<(), Fail> {
+    let name = name(alloc, text)?;
+    let ty = plain_type(alloc, of)?;
+    proof.add_const(alloc, name, ty)?;
+    Ok(())
+}
+
+/// Declares a function on a type without arguments.
+fn declare_function<S: TermStore + Drop>(
+    alloc: Global,
+    proof: &mut Proof<S>,
+    text: &str,
+    of: &str,
+) -> Result<(), Fail> {
+    let name = name(alloc, text)?;
+    let from = plain_type(alloc, of)?;
+    let to = plain_type(alloc, of)?;
+    let ty = Ty::fun(alloc, from, to)?;
+    proof.add_const(alloc, name, ty)?;
+    Ok(())
 }
 
 /// The id of a term, which has no fault.

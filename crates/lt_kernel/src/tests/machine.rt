@@ -35,20 +35,28 @@ pub fn terms(alloc: Global, text: &str) -> Result<Vec<Term>, Fail> {
 
 /// The type that a text leaves, and its last term: `bool` and the constant `p` where there is none.
 pub fn parts(alloc: Global, text: &str) -> Result<(Ty, Term), Fail> {
-    let Machine {
-        mut types,
-        mut terms,
-        ..
-    } = made(alloc, text)?;
-    let ty = match types.pop() {
-        Some(ty) => ty,
-        None => Ty::bool(alloc)?,
-    };
-    let term = match terms.pop() {
-        Some(term) => term,
-        None => Term::constant(alloc, name(alloc, "p")?, List::new(alloc))?,
-    };
+    let machine = made(alloc, text)?;
+    let Machine { types, terms, .. } = machine;
+    let ty = last_type(alloc, types)?;
+    let term = last_term(alloc, terms)?;
     Ok((ty, term))
+}
+
+fn last_type(alloc: Global, types: Vec<Ty>) -> Result<Ty, Fail> {
+    let mut types = types;
+    if let Some(ty) = types.pop() {
+        return Ok(ty);
+    }
+    Ok(Ty::bool(alloc)?)
+}
+
+fn last_term(alloc: Global, terms: Vec<Term>) -> Result<Term, Fail> {
+    let mut terms = terms;
+    if let Some(term) = terms.pop() {
+        return Ok(term);
+    }
+    let name = name(alloc, "p")?;
+    Ok(Term::constant(alloc, name, List::new(alloc))?)
 }
 
 /// What a text makes.
@@ -71,6 +79,27 @@ impl Machine {
             b'B' => self.plain_type(alloc, "bool"),
             b'A' => self.type_variable(alloc),
             b'>' => self.function_type(alloc),
+            b',' | b'|' => self.end(alloc),
+            b' ' | b'-' => Ok(self),
+            _ => self.letter_of_term(alloc, letter),
+        }
+    }
+
+    fn letter_of_term(self, alloc: Global, letter: u8) -> Result<Machine, Fail> {
+        match letter {
+            b'x' => self.variable(alloc, "x"),
+            b'y' => self.variable(alloc, "y"),
+            b'u' => self.bound_name(alloc, "u"),
+            b'v' => self.bound_name(alloc, "v"),
+            b'U' => self.bind(alloc, "u"),
+            b'V' => self.bind(alloc, "v"),
+            b'.' => self.apply(alloc),
+            _ => self.letter_of_constant(alloc, letter),
+        }
+    }
+
+    fn letter_of_constant(self, alloc: Global, letter: u8) -> Result<Machine, Fail> {
+        match letter {
             b'p' => self.constant(alloc, "p"),
             b'q' => self.constant(alloc, "q"),
             b'z' => self.constant(alloc, "z"),
@@ -79,15 +108,6 @@ impl Machine {
             b'=' => self.constant_of_type(alloc, "eq"),
             b'!' => self.constant_of_type(alloc, "all"),
             b'e' => self.constant_of_type(alloc, "eps"),
-            b'x' => self.variable(alloc, "x"),
-            b'y' => self.variable(alloc, "y"),
-            b'u' => self.bound_name(alloc, "u"),
-            b'v' => self.bound_name(alloc, "v"),
-            b'U' => self.bind(alloc, "u"),
-            b'V' => self.bind(alloc, "v"),
-            b'.' => self.apply(alloc),
-            b',' | b'|' => self.end(alloc),
-            b' ' | b'-' => Ok(self),
             _ => Err("no letter".into()),
         }
     }
