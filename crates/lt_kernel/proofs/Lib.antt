@@ -7,3 +7,4 @@ pub mod OtherOutcomes
 pub mod Outcomes
 pub mod NamedIds
 pub mod States
+pub mod TestTerms

@@ -1,0 +1,8 @@
+//! Derivations whose sequents and reasons were written out from the rules by hand.
+
+mod calls;
+mod derivation;
+mod large;
+mod lines;
+mod machine;
+mod reasons;
