@@ -7,4 +7,3 @@ pub mod OtherOutcomes
 pub mod Outcomes
 pub mod NamedIds
 pub mod States
-pub mod TestTerms

@@ -28,6 +28,3 @@ mod word;
 pub use proof::{Proof, ProofMark};
 pub use rule_fault::RuleFault;
 pub use sequent::{Sequent, Step};
-
-#[cfg(test)]
-mod tests;

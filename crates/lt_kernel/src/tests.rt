@@ -1,8 +1,0 @@
-//! Derivations whose sequents and reasons were written out from the rules by hand.
-
-mod calls;
-mod derivation;
-mod large;
-mod lines;
-mod machine;
-mod reasons;
