@@ -11,7 +11,7 @@ use std::process::Abort;
 use std::test::Fail;
 
 /// The id of the term of a text.
-fn id(alloc: Global, proof: &mut Proof<PlainStore>, text: &str) -> Result<Id, Fail>
+fn id<S: TermStore + Drop>(alloc: Global, proof: &mut Proof<S>, text: &str) -> Result<Id, Fail>
     ensures { IfOk result (λ t. t < length proof.new.nodes) }
 {
     let (_, term) = parts(alloc, text)?;
@@ -20,9 +20,9 @@ fn id(alloc: Global, proof: &mut Proof<PlainStore>, text: &str) -> Result<Id, Fa
 }
 
 /// Names the constant `p`.
-fn state(
+fn state<S: TermStore + Drop>(
     alloc: Global,
-    proof: &mut Proof<PlainStore>,
+    proof: &mut Proof<S>,
     label: &str,
 ) -> Result<Result<(), RuleFault>, Fail> {
     let p = id(alloc, proof, "p")?;
@@ -31,9 +31,9 @@ fn state(
 }
 
 /// The line that cites a statement.
-fn cite(
+fn cite<S: TermStore + Drop>(
     alloc: Global,
-    proof: &mut Proof<PlainStore>,
+    proof: &mut Proof<S>,
     label: &str,
 ) -> Result<Result<usize, RuleFault>, Fail> {
     let line = Line::Thm(name(alloc, label)?);
@@ -41,10 +41,10 @@ fn cite(
 }
 
 /// A line that cites a statement, and its number.
-fn cited_as_first(
+fn cited_as_first<S: TermStore + Drop>(
     alloc: Global,
     rt: &impl Abort,
-    proof: &mut Proof<PlainStore>,
+    proof: &mut Proof<S>,
 ) -> Result<(), Fail> {
     let number = cite(alloc, proof, "l")??;
     assert_eq!(rt; number, 1);
@@ -53,21 +53,51 @@ fn cited_as_first(
     Ok(())
 }
 
+/// Whether a label was refused.
+fn is_duplicate(answer: Result<(), RuleFault>) -> bool {
+    matches!(answer, Err(RuleFault::Duplicate(_)))
+}
+
+/// States the constant `p`. Its label is not taken again.
+fn stated<S: TermStore + Drop>(
+    alloc: Global,
+    rt: &impl Abort,
+    proof: &mut Proof<S>,
+) -> Result<(), Fail> {
+    state(alloc, proof, "l")??;
+    let again = state(alloc, proof, "l")?;
+    let is_refused = is_duplicate(again);
+    assert!(rt; is_refused);
+    Ok(())
+}
+
 #[test]
 fn lines_are_kept_until_they_are_cleared(rt: HostRuntime) -> Result<(), Fail> {
     let alloc = rt.alloc();
     let mut proof = declared(alloc, PlainStore::new(alloc))?;
-    state(alloc, &mut proof, "l")??;
-    let again = state(alloc, &mut proof, "l")?;
-    assert!(rt; matches!(again, Err(RuleFault::Duplicate(_))));
-    cited_as_first(alloc, &rt, &mut proof)?;
+    clears(alloc, &rt, &mut proof)
+}
+
+/// Lines before and after they are cleared.
+fn clears<S: TermStore + Drop>(
+    alloc: Global,
+    rt: &impl Abort,
+    proof: &mut Proof<S>,
+) -> Result<(), Fail> {
+    stated(alloc, rt, proof)?;
+    cited_as_first(alloc, rt, proof)?;
     proof.clear();
-    assert!(rt; proof.line(1).is_none());
-    cited_as_first(alloc, &rt, &mut proof)
+    let is_none = proof.line(1).is_none();
+    assert!(rt; is_none);
+    cited_as_first(alloc, rt, proof)
 }
 
 /// What a mark cuts off: a type, a constant, a statement and a line.
-fn more(alloc: Global, rt: &impl Abort, proof: &mut Proof<PlainStore>) -> Result<(), Fail> {
+fn more<S: TermStore + Drop>(
+    alloc: Global,
+    rt: &impl Abort,
+    proof: &mut Proof<S>,
+) -> Result<(), Fail> {
     declare_type(alloc, proof, "t")?;
     declare_constant(alloc, proof, "c", "t")?;
     state(alloc, proof, "k")??;
@@ -77,24 +107,28 @@ fn more(alloc: Global, rt: &impl Abort, proof: &mut Proof<PlainStore>) -> Result
 }
 
 /// Whether a type of the name is declared.
-fn has_type(alloc: Global, proof: &Proof<PlainStore>, text: &str) -> Result<bool, Fail> {
+fn has_type<S: TermStore + Drop>(
+    alloc: Global,
+    proof: &Proof<S>,
+    text: &str,
+) -> Result<bool, Fail> {
     let name = name(alloc, text)?;
     Ok(proof.signature().arity(&name).is_some())
 }
 
 /// Goes back to a mark after more was declared.
-fn more_and_back(
+fn more_and_back<S: TermStore + Drop>(
     alloc: Global,
     rt: &impl Abort,
-    proof: &mut Proof<PlainStore>,
+    proof: &mut Proof<S>,
     mark: ProofMark,
 ) -> Result<(), Fail> {
     more(alloc, rt, proof)?;
-    assert!(rt; proof.mark() != mark);
-    assert!(rt; has_type(alloc, proof, "t")?);
+    let is_declared = has_type(alloc, proof, "t")?;
+    assert!(rt; is_declared && proof.mark() != mark);
     proof.back(mark);
-    assert!(rt; proof.mark() == mark);
-    assert!(rt; !has_type(alloc, proof, "t")?);
+    let is_left = has_type(alloc, proof, "t")?;
+    assert!(rt; !is_left && proof.mark() == mark);
     assert!(rt; proof.line(1).is_none());
     Ok(())
 }
@@ -103,13 +137,20 @@ fn more_and_back(
 fn what_came_after_a_mark_goes(rt: HostRuntime) -> Result<(), Fail> {
     let alloc = rt.alloc();
     let mut proof = declared(alloc, PlainStore::new(alloc))?;
-    state(alloc, &mut proof, "l")??;
+    goes_back(alloc, &rt, &mut proof)
+}
+
+/// Goes back to a mark twice.
+fn goes_back<S: TermStore + Drop>(
+    alloc: Global,
+    rt: &impl Abort,
+    proof: &mut Proof<S>,
+) -> Result<(), Fail> {
+    stated(alloc, rt, proof)?;
     let mark = proof.mark();
-    more_and_back(alloc, &rt, &mut proof, mark)?;
-    more_and_back(alloc, &rt, &mut proof, mark)?;
-    let number = cite(alloc, &mut proof, "l")??;
-    assert_eq!(rt; number, 1);
-    Ok(())
+    more_and_back(alloc, rt, proof, mark)?;
+    more_and_back(alloc, rt, proof, mark)?;
+    cited_as_first(alloc, rt, proof)
 }
 
 /// The identity on `bool`, node by node.
@@ -130,7 +171,11 @@ fn redex<S: TermStore>(alloc: Global, rt: &impl Abort, store: &mut S) -> Result<
 }
 
 /// A free variable, which is viewed as one.
-fn viewed(alloc: Global, rt: &impl Abort, proof: &mut Proof<PlainStore>) -> Result<(), Fail> {
+fn viewed<S: TermStore + Drop>(
+    alloc: Global,
+    rt: &impl Abort,
+    proof: &mut Proof<S>,
+) -> Result<(), Fail> {
     let name = name(alloc, "x")?;
     let ty = plain_type(alloc, "bool")?;
     let x = proof.mk_free(alloc, name, ty)?;
@@ -142,11 +187,20 @@ fn viewed(alloc: Global, rt: &impl Abort, proof: &mut Proof<PlainStore>) -> Resu
 fn a_proof_is_a_store(rt: HostRuntime) -> Result<(), Fail> {
     let alloc = rt.alloc();
     let mut proof = declared(alloc, PlainStore::new(alloc))?;
-    let made = redex(alloc, &rt, &mut proof)?;
-    let read = id(alloc, &mut proof, "uBUp.")?;
-    let is = same(alloc, &proof, made, read)?;
+    stores(alloc, &rt, &mut proof)
+}
+
+/// The calls of a store at a proof.
+fn stores<S: TermStore + Drop>(
+    alloc: Global,
+    rt: &impl Abort,
+    proof: &mut Proof<S>,
+) -> Result<(), Fail> {
+    let made = redex(alloc, rt, proof)?;
+    let read = id(alloc, proof, "uBUp.")?;
+    let is = same(alloc, proof, made, read)?;
     assert!(rt; is);
-    viewed(alloc, &rt, &mut proof)?;
+    viewed(alloc, rt, proof)?;
     assert_eq!(rt; proof.store().len(), proof.len());
     Ok(())
 }

@@ -2,7 +2,7 @@
 use crate::Proof;
 use crate::tests::lines::{Given, declared, derive, gives, put};
 use crate::tests::machine::{name, parts};
-use lt_store::PlainStore;
+use lt_store::{PlainStore, TermStore};
 use std::alloc::Global;
 use std::process::Abort;
 use std::test::Fail;
@@ -65,20 +65,19 @@ const LAST: [Row<'static>; 10] = [
     (("ccontr", "_", "p", 0, 0), "|- IIIp.B!uBU...B!uBU...p."),
 ];
 
-/// A proof with a statement named `l`.
-fn stated(alloc: Global) -> Result<Proof<PlainStore>, Fail> {
-    let mut proof = declared(alloc, PlainStore::new(alloc))?;
+/// States an implication named `l`.
+fn stated<S: TermStore + Drop>(alloc: Global, proof: &mut Proof<S>) -> Result<(), Fail> {
     let (_, statement) = parts(alloc, "Ip.q.")?;
-    let statement = put(alloc, &mut proof, &statement)?;
+    let statement = put(alloc, proof, &statement)?;
     proof.add_statement(alloc, name(alloc, "l")?, statement)?;
-    Ok(proof)
+    Ok(())
 }
 
 /// Derives lines, and compares them with their sequents.
-fn follow(
+fn follow<S: TermStore + Drop>(
     alloc: Global,
     rt: &impl Abort,
-    proof: &mut Proof<PlainStore>,
+    proof: &mut Proof<S>,
     rows: &[Row<'_>],
 ) -> Result<(), Fail> {
     for (given, sequent) in rows {
@@ -92,10 +91,20 @@ fn follow(
 #[test]
 fn each_rule_gives_its_sequent(rt: HostRuntime) -> Result<(), Fail> {
     let alloc = rt.alloc();
-    let mut proof = stated(alloc)?;
-    follow(alloc, &rt, &mut proof, &FIRST)?;
-    follow(alloc, &rt, &mut proof, &FUNCTIONS)?;
-    follow(alloc, &rt, &mut proof, &LAST)?;
+    let mut proof = declared(alloc, PlainStore::new(alloc))?;
+    follow_all(alloc, &rt, &mut proof)
+}
+
+/// Derives all lines.
+fn follow_all<S: TermStore + Drop>(
+    alloc: Global,
+    rt: &impl Abort,
+    proof: &mut Proof<S>,
+) -> Result<(), Fail> {
+    stated(alloc, proof)?;
+    follow(alloc, rt, proof, &FIRST)?;
+    follow(alloc, rt, proof, &FUNCTIONS)?;
+    follow(alloc, rt, proof, &LAST)?;
     assert!(rt; proof.line(30).is_some() && proof.line(31).is_none());
     Ok(())
 }
