@@ -65,6 +65,3 @@ pub type Terms = List<Term>;
 
 /// A list of items.
 pub type Items = List<Item>;
-
-#[cfg(test)]
-mod typing_tests;
