@@ -6,7 +6,7 @@ use Rattle.std.proofs.lemmas.Bool.{ltb-true, lt-ltb}
 use Rattle.lt_definitions.proofs.Tests.{both-true, true-both}
 use Rattle.lt_definitions.specs.Terms.{TermTree, bound_name}
 use Rattle.lt_definitions.specs.Rules as rules
-use Rattle.lt_hol.specs.declared.term.TermNode.{TermNode}
+use Rattle.lt_terms.specs.declared.term.TermNode.{TermNode}
 use Rattle.lt_hol.specs.declared.line.Line.{Line}
 use Rattle.lt_hol.specs.declared.line.Line.TheVariants.{Assume, Weaken, Refl, Sym, Trans, Cong, Abs, Beta, Eta, Eqmp, ImpI, Mp, AllI, AllE, Iff, Inst, Tinst, Select, Ccontr, Thm}
 use Rattle.lt_hol.specs.Lines.{has_children_below, are_in_order, tree_of, trees_behind, trees, is_within, rule_of, rules_of}

@@ -5,11 +5,11 @@ use Rattle.std.proofs.lemmas.List.{reverse-append, get_or_default}
 use Rattle.std.proofs.lemmas.Bool.{ltb-true}
 use Rattle.lt_definitions.proofs.Tests.{both-true}
 use Rattle.lt_definitions.specs.Terms.{TermTree, bound_name, application, abstraction}
-use Rattle.lt_hol.specs.declared.term.TermNode.{TermNode}
-use Rattle.lt_hol.specs.declared.term.TermNode.TheVariants.{Free, Bound, Const, App, Lam}
+use Rattle.lt_terms.specs.declared.term.TermNode.{TermNode}
+use Rattle.lt_terms.specs.declared.term.TermNode.TheVariants.{Free, Bound, Const, App, Lam}
 use Rattle.lt_hol.specs.declared.shared_nodes.Task.{Task}
 use Rattle.lt_hol.specs.declared.shared_nodes.Task.TheVariants.{Visit, Make}
-use Rattle.lt_hol.specs.Layout.{term_size, grow, HasRoom}
+use Rattle.lt_terms.specs.Layout.{term_size, grow, HasRoom}
 use Rattle.lt_hol.specs.Lines.{has_children_below, are_in_order, tree_of, trees_behind, trees}
 use Rattle.lt_hol.specs.Tasks.{visits}
 

@@ -14,12 +14,12 @@ use Rattle.lt_hol.specs.declared.type_fault.TypeFault.{TypeFault}
 use Rattle.lt_hol.specs.declared.type_fault.TypeFault.TheVariants.{Duplicate, UnknownType, Arity, UnknownConst, TypeArgs, Unbound, Mismatch as MismatchFault, Memory}
 use Rattle.lt_hol.specs.Faults.{Finds, fault_of}
 use Rattle.lt_hol.specs.Outcomes.{Typed, IsOutcome, AreOutcomes, IsWithin, AreWithin, IsHint, AreHints, binder_type, at_binder, bound_types, typed_step}
-use Rattle.lt_hol.specs.declared.bound_names.Binder.{Binder}
-use Rattle.lt_hol.specs.declared.term.TermNode.{TermNode}
-use Rattle.lt_hol.specs.declared.term.TermNode.TheVariants.{App, Lam}
-use Rattle.lt_hol.specs.Layout.{under, term_nodes}
-use Rattle.lt_hol.specs.BoundNames.{Places, binder_of, further, binders_in}
-use Rattle.lt_hol.proofs.TermNodes.{length-term_nodes}
+use Rattle.lt_terms.specs.declared.bound_names.Binder.{Binder}
+use Rattle.lt_terms.specs.declared.term.TermNode.{TermNode}
+use Rattle.lt_terms.specs.declared.term.TermNode.TheVariants.{App, Lam}
+use Rattle.lt_terms.specs.Layout.{under, term_nodes}
+use Rattle.lt_terms.specs.BoundNames.{Places, binder_of, further, binders_in}
+use Rattle.lt_terms.proofs.TermNodes.{length-term_nodes}
 use Rattle.lt_hol.specs.TypeTables.{type_at, Extends, function_parts}
 use Rattle.lt_hol.proofs.DistinctTypes.{type_at-more}
 use Rattle.lt_hol.proofs.TypeNumbers.{extends-length, AreNumbers, numbers-more}

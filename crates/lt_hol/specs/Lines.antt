@@ -2,8 +2,8 @@
 use Rattle.std.specs.Prelude.{◌≡◌, ℕ, ◌+◌, List, [], ◌∷◌, ◌++◌, map, Bool, true, ◌&&◌, nat_lt, get_or}
 use Rattle.lt_definitions.specs.Terms.{TermTree, free_variable, bound_name, constant, application, abstraction}
 use Rattle.lt_definitions.specs.Rules as rules
-use Rattle.lt_hol.specs.declared.term.TermNode.{TermNode}
-use Rattle.lt_hol.specs.declared.term.TermNode.TheVariants.{Free, Bound, Const, App, Lam}
+use Rattle.lt_terms.specs.declared.term.TermNode.{TermNode}
+use Rattle.lt_terms.specs.declared.term.TermNode.TheVariants.{Free, Bound, Const, App, Lam}
 use Rattle.lt_hol.specs.declared.line.Line.{Line}
 use Rattle.lt_hol.specs.declared.line.Line.TheVariants.{Assume, Weaken, Refl, Sym, Trans, Cong, Abs, Beta, Eta, Eqmp, ImpI, Mp, AllI, AllE, Iff, Inst, Tinst, Select, Ccontr, Thm}
 

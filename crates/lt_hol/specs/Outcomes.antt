@@ -3,11 +3,11 @@ use Rattle.std.specs.Prelude.{◌≡◌, ℕ, ◌<◌, List, [], ◌∷◌, ◌+
 use Rattle.lt_definitions.specs.Types.{Chars, TypeTree, found, fun}
 use Rattle.lt_definitions.specs.Terms.{TermTree, free_variable, bound_name, constant, application, abstraction}
 use Rattle.lt_definitions.specs.Typing.{Signature, Fault, mismatch, type_fault, unless, with_ok, constant_type, declared_type, applied_type, bound_type}
-use Rattle.lt_hol.specs.declared.bound_names.Binder.{Binder}
+use Rattle.lt_terms.specs.declared.bound_names.Binder.{Binder}
 use Rattle.lt_hol.specs.declared.outcome.Outcome.{Outcome}
 use Rattle.lt_hol.specs.declared.outcome.Outcome.TheVariants.{Known, Mismatch, Wrong}
-use Rattle.lt_hol.specs.declared.term.TermNode.{TermNode}
-use Rattle.lt_hol.specs.declared.term.TermNode.TheVariants.{Free, Bound, Const, App, Lam}
+use Rattle.lt_terms.specs.declared.term.TermNode.{TermNode}
+use Rattle.lt_terms.specs.declared.term.TermNode.TheVariants.{Free, Bound, Const, App, Lam}
 use Rattle.lt_hol.specs.Faults.{Finds, fault_of}
 use Rattle.lt_hol.specs.TypeTables.{type_at}
 

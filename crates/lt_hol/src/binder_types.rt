@@ -3,9 +3,8 @@ ghost use Rattle.std.specs.Prelude.{◌≡◌, [], map, slice_index_or, IfOk, No
 ghost use Rattle.lt_hol.specs.Outcomes.{AreHints, IsHint, bound_types, binder_type, at_binder};
 ghost use Rattle.lt_hol.specs.TypeTables.{Extends};
 
-use crate::bound_names::{Binder, binders};
-use crate::term::{Term, TermNode};
 use crate::type_table::TypeTable;
+use lt_terms::{Binder, Term, TermNode, binders};
 use lt_types::Memory;
 use std::alloc::Global;
 

@@ -1,6 +1,6 @@
 //! Items of a plain theory.
 use crate::lines::Lines;
-use crate::term::Term;
+use lt_terms::Term;
 use lt_types::{List, Memory, Name, TryCopy, Ty};
 use std::alloc::Global;
 

@@ -4,8 +4,7 @@ ghost use Rattle.lt_definitions.specs.Terms.{bound_name};
 ghost use Rattle.lt_hol.specs.Lines.{are_in_order, trees};
 ghost use Rattle.lt_hol.specs.Tasks.{visits};
 
-use crate::term::{Term, TermNode};
-use crate::term_builder::TermBuilder;
+use lt_terms::{Term, TermBuilder, TermNode};
 use lt_types::{Memory, TryCopy};
 use std::alloc::Global;
 

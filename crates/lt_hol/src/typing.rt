@@ -9,9 +9,9 @@ ghost use Rattle.lt_hol.specs.TypeTables.{type_at, all_below, types_at, Extends}
 use crate::binder_types::{bound_types, hint_at};
 use crate::outcome::Outcome;
 use crate::signature::Signature;
-use crate::term::{Term, TermNode};
 use crate::type_fault::TypeFault;
 use crate::type_table::TypeTable;
+use lt_terms::{Term, TermNode};
 use lt_types::{List, Memory, Name, TryCopy, Ty};
 use std::alloc::Global;
 

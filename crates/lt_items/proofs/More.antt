@@ -8,8 +8,8 @@ use Rattle.std.proofs.lemmas.List.{reverse-append}
 use Rattle.std.proofs.lemmas.List.Folds.{list_all-append}
 use Rattle.lt_definitions.proofs.Tests.{both-true, true-both}
 use Rattle.lt_definitions.specs.Terms.{TermTree, bound_name}
-use Rattle.lt_hol.specs.declared.term.TermNode.{TermNode}
-use Rattle.lt_hol.specs.declared.term.TermNode.TheVariants.{App}
+use Rattle.lt_terms.specs.declared.term.TermNode.{TermNode}
+use Rattle.lt_terms.specs.declared.term.TermNode.TheVariants.{App}
 use Rattle.lt_hol.specs.Lines.{tree_of, trees_behind, trees}
 use Rattle.lt_items.specs.Making.{apply_newest}
 use Rattle.lt_items.specs.Places.{term_at, terms_at, are_places}

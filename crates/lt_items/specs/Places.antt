@@ -2,7 +2,7 @@
 use Rattle.std.specs.Prelude.{ℕ, List, [], map, reverse, length, Bool, nat_lt, get_or}
 use Rattle.std.specs.List.{list_all}
 use Rattle.lt_definitions.specs.Terms.{TermTree, bound_name}
-use Rattle.lt_hol.specs.declared.term.TermNode.{TermNode}
+use Rattle.lt_terms.specs.declared.term.TermNode.{TermNode}
 use Rattle.lt_hol.specs.Lines.{trees}
 
 -- the term at a place

@@ -2,6 +2,3 @@ pub mod Reasons
 pub mod Sequents
 pub mod Lines
 pub mod State
-pub mod Shapes
-pub mod Redexes
-pub mod FunctionTypes

@@ -4,13 +4,10 @@ ghost use Rattle.lt_definitions.specs.NamelessRules.{nameless_cong_gives};
 ghost use Rattle.lt_store.specs.Trees.{Extends};
 ghost use Rattle.lt_kernel.specs.Sequents.{sequents_at, AreWithin, Gives};
 
-use crate::function_types::joined_type;
-use crate::hyps::union;
-use crate::making_more::mk_applied_equation;
 use crate::rule_fault::RuleFault;
 use crate::sequent::{Sequent, Step};
-use crate::shapes::as_equation;
 use crate::steps::sequent_at;
+use lt_formulas::{as_equation, joined_type, mk_applied_equation, union};
 use lt_hol::Reason;
 use lt_store::TermStore;
 use std::alloc::Global;

@@ -4,12 +4,11 @@ ghost use Rattle.lt_definitions.specs.NamelessRules.{nameless_fault, nameless_as
 ghost use Rattle.lt_store.specs.Trees.{tree_at};
 ghost use Rattle.lt_kernel.specs.Sequents.{sequents_at, statements_at, AreWithin, NamedWithin, Gives};
 
-use crate::hyps::{one, union};
 use crate::rule_fault::RuleFault;
 use crate::sequent::{Sequent, Step};
 use crate::steps::sequent_at;
-use crate::typing::is_boolean;
 use indexmap::IndexMap;
+use lt_formulas::{is_boolean, one, union};
 use lt_hol::{Ids, Name, Reason, Signature};
 use lt_store::{Id, TermStore};
 use std::alloc::Global;

@@ -4,14 +4,10 @@ ghost use Rattle.lt_definitions.specs.NamelessRules.{nameless_fault, nameless_ab
 ghost use Rattle.lt_store.specs.Trees.{tree_at, Extends};
 ghost use Rattle.lt_kernel.specs.Sequents.{sequents_at, AreWithin, Gives};
 
-use crate::making::mk_equation;
-use crate::making_more::mk_closed_equation;
-use crate::redexes::{expanded, redex_parts};
 use crate::rule_fault::RuleFault;
 use crate::sequent::{Sequent, Step};
-use crate::shapes::as_equation;
 use crate::steps::sequent_at;
-use crate::typing::type_of;
+use lt_formulas::{as_equation, expanded, mk_closed_equation, mk_equation, redex_parts, type_of};
 use lt_hol::{Ids, Name, Reason, Signature, TryCopy, Ty};
 use lt_store::{Id, TermStore, has_free, has_loose, instantiate};
 use std::alloc::Global;

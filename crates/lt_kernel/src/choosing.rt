@@ -4,11 +4,9 @@ ghost use Rattle.lt_definitions.specs.NamelessRules.{nameless_fault, nameless_se
 ghost use Rattle.lt_store.specs.Trees.{tree_at, Extends};
 ghost use Rattle.lt_kernel.specs.Sequents.{Gives};
 
-use crate::function_types::predicate_over;
-use crate::making_more::{mk_double_negation, mk_selection};
 use crate::rule_fault::RuleFault;
 use crate::sequent::Sequent;
-use crate::typing::{is_boolean, type_of};
+use lt_formulas::{is_boolean, mk_double_negation, mk_selection, predicate_over, type_of};
 use lt_hol::{Ids, Reason, Signature};
 use lt_store::{Id, TermStore};
 use std::alloc::Global;

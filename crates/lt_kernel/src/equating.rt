@@ -4,13 +4,10 @@ ghost use Rattle.lt_definitions.specs.NamelessRules.{nameless_fault, nameless_re
 ghost use Rattle.lt_store.specs.Trees.{tree_at, Extends};
 ghost use Rattle.lt_kernel.specs.Sequents.{sequents_at, AreWithin, Gives};
 
-use crate::hyps::{are_same, union};
-use crate::making::mk_equation;
 use crate::rule_fault::RuleFault;
 use crate::sequent::{Sequent, Step};
-use crate::shapes::{as_equation, as_implication};
 use crate::steps::sequent_at;
-use crate::typing::type_of;
+use lt_formulas::{are_same, as_equation, as_implication, mk_equation, type_of, union};
 use lt_hol::{Ids, Reason, Signature, TryCopy, Ty};
 use lt_store::{Id, TermStore};
 use std::alloc::Global;

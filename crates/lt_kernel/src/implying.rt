@@ -4,13 +4,10 @@ ghost use Rattle.lt_definitions.specs.NamelessRules.{nameless_fault, nameless_im
 ghost use Rattle.lt_store.specs.Trees.{tree_at, Extends};
 ghost use Rattle.lt_kernel.specs.Sequents.{sequents_at, AreWithin, Gives};
 
-use crate::hyps::{are_same, union, without};
-use crate::making::mk_implies;
 use crate::rule_fault::RuleFault;
 use crate::sequent::{Sequent, Step};
-use crate::shapes::as_implication;
 use crate::steps::sequent_at;
-use crate::typing::is_boolean;
+use lt_formulas::{are_same, as_implication, is_boolean, mk_implies, union, without};
 use lt_hol::{Reason, Signature};
 use lt_store::{Id, TermStore};
 use std::alloc::Global;

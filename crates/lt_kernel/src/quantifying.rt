@@ -4,12 +4,10 @@ ghost use Rattle.lt_definitions.specs.NamelessRules.{nameless_fault, nameless_al
 ghost use Rattle.lt_store.specs.Trees.{tree_at, Extends};
 ghost use Rattle.lt_kernel.specs.Sequents.{sequents_at, AreWithin, Gives};
 
-use crate::making_more::{mk_at, mk_closed_for_all};
 use crate::rule_fault::RuleFault;
 use crate::sequent::{Sequent, Step};
-use crate::shapes::as_forall;
 use crate::steps::sequent_at;
-use crate::typing::has_type;
+use lt_formulas::{as_forall, has_type, mk_at, mk_closed_for_all};
 use lt_hol::{Name, Reason, Signature, TryCopy, Ty};
 use lt_store::{Id, TermStore, has_free};
 use std::alloc::Global;

@@ -4,11 +4,10 @@ ghost use Rattle.lt_definitions.specs.NamelessRules.{nameless_fault, nameless_re
 ghost use Rattle.lt_store.specs.Trees.{tree_at, Extends};
 ghost use Rattle.lt_kernel.specs.Sequents.{sequents_at, AreWithin, Gives};
 
-use crate::hyps::{one, union};
 use crate::rule_fault::RuleFault;
 use crate::sequent::{Sequent, Step};
 use crate::steps::sequent_at;
-use crate::typing::has_type;
+use lt_formulas::{has_type, one, union};
 use lt_hol::{Ids, Memory, Name, Reason, Signature, TryCopy, Ty, TyMap};
 use lt_store::{Id, TermStore, replace_free, type_instance, type_instances};
 use std::alloc::Global;

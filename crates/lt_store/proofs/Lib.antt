@@ -10,4 +10,3 @@ pub mod TypeNumbers
 pub mod TypeTasks
 pub mod BinderNames
 pub mod NameTasks
-pub mod TestTerms

@@ -8,11 +8,11 @@ use Rattle.lt_definitions.specs.Terms.{TermTree, free_variable, bound_name, cons
 use Rattle.lt_definitions.specs.Nameless.{Nameless, nameless_bound, nameless_loose, nameless_application, nameless_abstraction, deeper, nameless_name, nameless, IsWhole}
 use Rattle.lt_definitions.proofs.Tests.{bool_cases}
 use Rattle.lt_definitions.proofs.Alphas.{name-hit, name-miss}
-use Rattle.lt_hol.specs.declared.bound_names.Binder.{Binder}
-use Rattle.lt_hol.specs.declared.term.TermNode.{TermNode}
-use Rattle.lt_hol.specs.declared.term.TermNode.TheVariants.{Bound, App, Lam}
-use Rattle.lt_hol.specs.Layout.{under, term_nodes}
-use Rattle.lt_hol.specs.BoundNames.{Places, further, binder_of, binders_in}
+use Rattle.lt_terms.specs.declared.bound_names.Binder.{Binder}
+use Rattle.lt_terms.specs.declared.term.TermNode.{TermNode}
+use Rattle.lt_terms.specs.declared.term.TermNode.TheVariants.{Bound, App, Lam}
+use Rattle.lt_terms.specs.Layout.{under, term_nodes}
+use Rattle.lt_terms.specs.BoundNames.{Places, further, binder_of, binders_in}
 use Rattle.lt_store.specs.declared.node.Node.{Node}
 use Rattle.lt_store.specs.Trees.{tree_at, trees, AllBelow, Extends}
 use Rattle.lt_store.specs.Stacks.{stack, joined, covered, grown, HasParts}

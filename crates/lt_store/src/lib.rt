@@ -26,8 +26,3 @@ pub use plain_store::PlainStore;
 pub use storing::to_store;
 pub use term_store::TermStore;
 pub use typing::type_at;
-
-#[cfg(test)]
-mod term_tests;
-#[cfg(test)]
-mod tests;

@@ -1,14 +1,14 @@
 -- What is left to write of a term: pieces, the next one last.
 use Rattle.std.proofs.Common.{◌≡◌, ℕ, ◌+◌, ◌*◌, ◌<◌, List, [], ◌∷◌, ◌++◌, Bool, true, false, length, drop, codes, decimal, refl, sym, ◌∙◌, ap, subst, arith, append_assoc, append-nil}
-use Rattle.lt_hol.specs.declared.term.TermNode.{TermNode}
-use Rattle.lt_hol.specs.declared.term.TermNode.TheVariants.{Free, Bound, Const, App, Lam}
+use Rattle.lt_terms.specs.declared.term.TermNode.{TermNode}
+use Rattle.lt_terms.specs.declared.term.TermNode.TheVariants.{Free, Bound, Const, App, Lam}
 use Rattle.lt_definitions.specs.Types.{Chars}
 use Rattle.lt_definitions.specs.Printing.{printed_type, printed_bound, printed_constant, printed_part}
-use Rattle.lt_hol.specs.Layout.{term_size}
+use Rattle.lt_terms.specs.Layout.{term_size}
 use Rattle.lt_syntax.specs.declared.pieces.Piece.{Piece}
 use Rattle.lt_syntax.specs.declared.pieces.Piece.TheVariants.{Head, Argument, Bracket, End}
 use Rattle.lt_syntax.specs.TermText.{term_front, later_pieces, binders_within}
-use Rattle.lt_hol.proofs.TermPlaces.{term_at, tree_of, IsWithin, IsPlace}
+use Rattle.lt_terms.proofs.TermPlaces.{term_at, tree_of, IsWithin, IsPlace}
 
 -- what a piece shows under binders, and the binders behind it
 abbrev pub piece_text : List TermNode → List Chars → Piece → Chars

@@ -1,9 +1,9 @@
 use Rattle.std.proofs.Common.{◌≡◌, ◌∙◌, [], List, ap, sym, subst, length, arith}
 use Rattle.std.proofs.lemmas.Grind.{common_steps}
 use Rattle.lt_definitions.specs.Terms.{TermTree}
-use Rattle.lt_hol.specs.declared.term.TermNode.{TermNode}
-use Rattle.lt_hol.specs.Layout.{HasRoom, grow}
-use Rattle.lt_hol.proofs.OpenNodes.{opened-one}
+use Rattle.lt_terms.specs.declared.term.TermNode.{TermNode}
+use Rattle.lt_terms.specs.Layout.{HasRoom, grow}
+use Rattle.lt_terms.proofs.OpenNodes.{opened-one}
 use Rattle.lt_hol.proofs.SharedTrees.{tree_at, MakesLast, makes-first, makes-last, visit-within, visit-step, make-step, visit-smaller, make-smaller}
 use Rattle.lt_hol.proofs.shared_nodes.term_at.Goals as goal
 

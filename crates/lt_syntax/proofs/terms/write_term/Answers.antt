@@ -1,12 +1,12 @@
 use Rattle.std.proofs.Common.{◌≡◌, ◌∙◌, ◌-◌, ◌++◌, ◌∷◌, [], true, false, List, ◌<◌, length, ap, subst, refl, arith}
 use Rattle.lt_definitions.specs.Types.{Chars}
 use Rattle.lt_definitions.specs.Printing.{printed_term}
-use Rattle.lt_hol.specs.Layout.{under, term_nodes}
-use Rattle.lt_hol.proofs.TermNodes.{length-term_nodes}
+use Rattle.lt_terms.specs.Layout.{under, term_nodes}
+use Rattle.lt_terms.proofs.TermNodes.{length-term_nodes}
 use Rattle.lt_syntax.specs.declared.pieces.Piece.{Piece}
 use Rattle.lt_syntax.specs.declared.pieces.Piece.TheVariants.{Head, Argument, Bracket, End}
 use Rattle.lt_syntax.specs.TermText.{term_front, later_pieces, binders_within}
-use Rattle.lt_hol.proofs.TermPlaces.{term_at, term_at-last, place}
+use Rattle.lt_terms.proofs.TermPlaces.{term_at, term_at-last, place}
 use Rattle.lt_syntax.proofs.TermPieces.{IsWriting, starts, closes, closes-less, goes-less, goes-head, goes-argument, last-below}
 use Rattle.lt_syntax.proofs.terms.write_term.Goals as goal
 

@@ -1,6 +1,6 @@
 use Rattle.std.proofs.Common.{◌++◌, []}
 use Rattle.lt_definitions.specs.Printing.{printed_term}
-use Rattle.lt_hol.specs.Layout.{term_nodes}
+use Rattle.lt_terms.specs.Layout.{term_nodes}
 use Rattle.lt_syntax.proofs.TermPieces.{IsWriting, weights}
 use Rattle.lt_syntax.proofs.terms.write_term.Given as goal
 

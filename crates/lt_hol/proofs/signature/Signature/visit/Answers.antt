@@ -1,5 +1,5 @@
 use Rattle.std.proofs.Common.{reverse, sym, subst}
-use Rattle.lt_hol.specs.declared.term.TermNode.{TermNode}
+use Rattle.lt_terms.specs.declared.term.TermNode.{TermNode}
 use Rattle.lt_hol.specs.Outcomes.{AreOutcomes, typed_step}
 use Rattle.lt_hol.proofs.TypingSteps.{one-more}
 use Rattle.lt_hol.proofs.signature.Signature.visit.Goals as goal

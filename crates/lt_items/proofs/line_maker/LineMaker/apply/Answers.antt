@@ -1,5 +1,5 @@
 use Rattle.std.proofs.Common.{reverse}
-use Rattle.lt_hol.specs.declared.term.TermNode.TheVariants.{App}
+use Rattle.lt_terms.specs.declared.term.TermNode.TheVariants.{App}
 use Rattle.lt_items.specs.Places.{terms_at}
 use Rattle.lt_items.proofs.More.{places-more, places-fewer, terms-applied}
 use Rattle.lt_items.proofs.line_maker.LineMaker.apply.Goals as goal

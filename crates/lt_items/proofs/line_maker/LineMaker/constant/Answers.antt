@@ -1,5 +1,5 @@
 use Rattle.std.proofs.Common.{[], reverse}
-use Rattle.lt_hol.specs.declared.term.TermNode.TheVariants.{Const}
+use Rattle.lt_terms.specs.declared.term.TermNode.TheVariants.{Const}
 use Rattle.lt_items.proofs.More.{places-more, terms-more}
 use Rattle.lt_items.proofs.line_maker.LineMaker.constant.Goals as goal
 

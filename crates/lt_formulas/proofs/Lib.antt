@@ -1,0 +1,4 @@
+pub mod Words
+pub mod Hypotheses
+pub mod Typed
+pub mod FunctionParts

@@ -1,7 +1,0 @@
-use Rattle.std.proofs.Common.{[], take, reverse}
-use Rattle.lt_hol.specs.Layout.{forest}
-use Rattle.lt_hol.proofs.BinderPasses.{IsFinding}
-use Rattle.lt_hol.proofs.bound_names.binders.Given as goal
-
-abbrev pub invariant-loop-at : goal.invariant-loop-at
-invariant-loop-at l = IsFinding l.t (forest [] (take l.at l.nodes)) l.pending (reverse l.found.items)

@@ -1,5 +1,0 @@
-use Rattle.lt_hol.proofs.NewNames.{first-nodes}
-use Rattle.lt_hol.proofs.closing.has_bound.Goals as goal
-
-pub loop-node-init : goal.loop-node-init
-loop-node-init c = first-nodes c.args.name.now c.args.t.now _ c.nodes-node-items.ensures

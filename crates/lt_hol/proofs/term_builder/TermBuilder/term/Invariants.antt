@@ -1,6 +1,0 @@
-use Rattle.std.proofs.Common.{◌≡◌, ◌++◌, [], take}
-use Rattle.lt_hol.specs.Layout.{forest}
-use Rattle.lt_hol.proofs.term_builder.TermBuilder.term.Given as goal
-
-abbrev pub invariant-loop-node : goal.invariant-loop-node
-invariant-loop-node l = l.builder ≡ forest [] (take l.node-index l.node-items) ++ l.fn.self

@@ -1,6 +1,0 @@
-use Rattle.std.proofs.Common.{sym}
-use Rattle.lt_kernel.proofs.Hypotheses.{same-test}
-use Rattle.lt_kernel.proofs.hyps.are_same.Goals as goal
-
-pub returns : goal.returns
-returns g c = sym (same-test _ _ _ c.in_ok-same.ensures)

@@ -1,0 +1,269 @@
+//! Lines from short texts, and what they give.
+ghost use Rattle.std.specs.Prelude.{◌≡◌, ◌<◌, length, None, IfOk};
+ghost use Rattle.lt_definitions.specs.Typing.{type_fault};
+ghost use Rattle.lt_definitions.specs.NamelessRules.{nameless_fault};
+ghost use Rattle.lt_store.specs.Trees.{tree_at};
+
+use crate::machine::{name, parts, plain_type, terms};
+use lt_hol::{Name, Reason, Signature, Term, Ty};
+use lt_kernel::{Proof, RuleFault};
+use lt_store::{Id, PlainStore, TermStore};
+use std::alloc::Global;
+use std::test::Fail;
+
+/// A line of a derivation: its rule, its name, a text of its type and its term, and its earlier lines.
+/// What the rule doesn't ask for is left out of the text, or is not looked at.
+pub type Given<'a> = (&'a str, &'a str, &'a str, usize, usize);
+
+/// A proof over the type `nat` and the constants `p`, `q`, `z` and `s`.
+pub fn declared<S: TermStore + Drop>(alloc: Global, store: S) -> Result<Proof<S>, Fail> {
+    let signature = Signature::new(alloc)?;
+    let mut proof = Proof::new(alloc, signature, store);
+    declare(alloc, &mut proof)?;
+    Ok(proof)
+}
+
+fn declare<S: TermStore + Drop>(alloc: Global, proof: &mut Proof<S>) -> Result<(), Fail> {
+    declare_type(alloc, proof, "nat")?;
+    declare_constant(alloc, proof, "p", "bool")?;
+    declare_constant(alloc, proof, "q", "bool")?;
+    declare_constant(alloc, proof, "z", "nat")?;
+    declare_function(alloc, proof, "s", "nat")
+}
+
+/// Declares a type without arguments.
+pub fn declare_type<S: TermStore + Drop>(
+    alloc: Global,
+    proof: &mut Proof<S>,
+    text: &str,
+) -> Result<(), Fail> {
+    let name = name(alloc, text)?;
+    proof.add_type(alloc, name, 0)?;
+    Ok(())
+}
+
+/// Declares a constant of a type without arguments.
+pub fn declare_constant<S: TermStore + Drop>(
+    alloc: Global,
+    proof: &mut Proof<S>,
+    text: &str,
+    of: &str,
+) -> Result<(), Fail> {
+    let name = name(alloc, text)?;
+    let ty = plain_type(alloc, of)?;
+    proof.add_const(alloc, name, ty)?;
+    Ok(())
+}
+
+/// Declares a function on a type without arguments.
+fn declare_function<S: TermStore + Drop>(
+    alloc: Global,
+    proof: &mut Proof<S>,
+    text: &str,
+    of: &str,
+) -> Result<(), Fail> {
+    let name = name(alloc, text)?;
+    let from = plain_type(alloc, of)?;
+    let to = plain_type(alloc, of)?;
+    let ty = Ty::fun(alloc, from, to)?;
+    proof.add_const(alloc, name, ty)?;
+    Ok(())
+}
+
+/// The id of a term, which has no fault.
+pub fn put<S: TermStore + Drop>(
+    alloc: Global,
+    proof: &mut Proof<S>,
+    term: &Term,
+) -> Result<Id, Fail>
+    ensures within { IfOk result (λ t. t < length proof.new.nodes) }
+    ensures typed { IfOk result (λ t. nameless_fault proof.new.signature (tree_at proof.new.nodes t) ≡ None) }
+{
+    let _ty = proof.signature().type_of(alloc, term)?;
+    let made = proof.add_term(alloc, term)?;
+    Ok(made)
+}
+
+/// What a line gives.
+pub fn derive<S: TermStore + Drop>(
+    alloc: Global,
+    proof: &mut Proof<S>,
+    given: Given<'_>,
+) -> Result<Result<usize, RuleFault>, Fail> {
+    let (rule, text, words, i, j) = given;
+    let x = name(alloc, text)?;
+    let (ty, term) = parts(alloc, words)?;
+    let t = put(alloc, proof, &term)?;
+    proof.signature().check_type(alloc, &ty)?;
+    Ok(call(alloc, proof, rule, x, ty, t, i, j))
+}
+
+/// The call of a rule's name.
+fn call<S: TermStore + Drop>(
+    alloc: Global,
+    proof: &mut Proof<S>,
+    rule: &str,
+    x: Name,
+    ty: Ty,
+    t: Id,
+    i: usize,
+    j: usize,
+) -> Result<usize, RuleFault>
+    requires ty { type_fault proof.old.signature ty ≡ None }
+    requires t { t < length proof.old.nodes }
+    requires typed { nameless_fault proof.old.signature (tree_at proof.old.nodes t) ≡ None }
+{
+    match rule {
+        "assume" => proof.assume(alloc, t),
+        "weaken" => proof.weaken(alloc, t, i),
+        "refl" => proof.refl(alloc, t),
+        "beta" => proof.beta(alloc, t),
+        "eta" => proof.eta(alloc, t),
+        _ => call_of_lines(alloc, proof, rule, x, ty, t, i, j),
+    }
+}
+
+/// The call of a rule that is given lines alone.
+fn call_of_lines<S: TermStore + Drop>(
+    alloc: Global,
+    proof: &mut Proof<S>,
+    rule: &str,
+    x: Name,
+    ty: Ty,
+    t: Id,
+    i: usize,
+    j: usize,
+) -> Result<usize, RuleFault>
+    requires ty { type_fault proof.old.signature ty ≡ None }
+    requires t { t < length proof.old.nodes }
+    requires typed { nameless_fault proof.old.signature (tree_at proof.old.nodes t) ≡ None }
+{
+    match rule {
+        "sym" => proof.sym(alloc, i),
+        "trans" => proof.trans(alloc, i, j),
+        "cong" => proof.cong(alloc, i, j),
+        "eqmp" => proof.eqmp(alloc, i, j),
+        "mp" => proof.mp(alloc, i, j),
+        "iff" => proof.iff(alloc, i, j),
+        _ => call_of_term(alloc, proof, rule, x, ty, t, i, j),
+    }
+}
+
+/// The call of a rule that is given a term, and of `select` and `ccontr`.
+fn call_of_term<S: TermStore + Drop>(
+    alloc: Global,
+    proof: &mut Proof<S>,
+    rule: &str,
+    x: Name,
+    ty: Ty,
+    t: Id,
+    i: usize,
+    j: usize,
+) -> Result<usize, RuleFault>
+    requires ty { type_fault proof.old.signature ty ≡ None }
+    requires t { t < length proof.old.nodes }
+    requires typed { nameless_fault proof.old.signature (tree_at proof.old.nodes t) ≡ None }
+{
+    match rule {
+        "impI" => proof.impI(alloc, t, i),
+        "allE" => proof.allE(alloc, t, i),
+        "select" => proof.select(alloc, t),
+        "ccontr" => proof.ccontr(alloc, t),
+        _ => call_of_name(alloc, proof, rule, x, ty, t, i),
+    }
+}
+
+/// The call of a rule that is given a name.
+fn call_of_name<S: TermStore + Drop>(
+    alloc: Global,
+    proof: &mut Proof<S>,
+    rule: &str,
+    x: Name,
+    ty: Ty,
+    t: Id,
+    i: usize,
+) -> Result<usize, RuleFault>
+    requires ty { type_fault proof.old.signature ty ≡ None }
+    requires t { t < length proof.old.nodes }
+    requires typed { nameless_fault proof.old.signature (tree_at proof.old.nodes t) ≡ None }
+{
+    match rule {
+        "abs" => proof.abs(alloc, x, ty, i),
+        "allI" => proof.allI(alloc, x, ty, i),
+        "inst" => proof.inst(alloc, x, ty, t, i),
+        "tinst" => proof.tinst(alloc, x, ty, i),
+        _ => proof.thm(alloc, x),
+    }
+}
+
+/// Whether a line has the hypotheses and, last, the conclusion of a text.
+pub fn gives<S: TermStore + Drop>(
+    alloc: Global,
+    proof: &mut Proof<S>,
+    number: usize,
+    text: &str,
+) -> Result<bool, Fail> {
+    let mut ids = Vec::new(alloc);
+    for term in &terms(alloc, text)? {
+        ids.push(put(alloc, proof, term)?)?;
+    }
+    let Some(concl) = ids.pop() else {
+        return Err("no conclusion".into());
+    };
+    is_sequent(alloc, proof, number, ids.as_slice(), concl)
+}
+
+/// Whether a line has these hypotheses and this conclusion.
+fn is_sequent<S: TermStore + Drop>(
+    alloc: Global,
+    proof: &Proof<S>,
+    number: usize,
+    hyps: &[Id],
+    concl: Id,
+) -> Result<bool, Fail> {
+    let Some(sequent) = proof.sequent(number) else {
+        return Ok(false);
+    };
+    if sequent.hyps.len() != hyps.len() {
+        return Ok(false);
+    }
+    for k in 0..hyps.len() {
+        if !same(alloc, proof, *sequent.hyps.at(k), hyps[k])? {
+            return Ok(false);
+        }
+    }
+    same(alloc, proof, sequent.concl, concl)
+}
+
+/// Whether two ids stand for one term.
+pub fn same<S: TermStore + Drop>(
+    alloc: Global,
+    proof: &Proof<S>,
+    a: Id,
+    b: Id,
+) -> Result<bool, Fail> {
+    if a >= proof.len() || b >= proof.len() {
+        return Err("no term".into());
+    }
+    Ok(proof.same(alloc, a, b)?)
+}
+
+/// The reason for which a line was refused.
+pub fn reason(answer: Result<usize, RuleFault>) -> Option<Reason> {
+    match answer {
+        Err(RuleFault::Bad(reason)) => Some(reason),
+        _ => None,
+    }
+}
+
+/// A proof whose lines are given. Each has to give a sequent.
+pub fn derivation(
+    alloc: Global,
+    proof: &mut Proof<PlainStore>,
+    lines: &[Given<'_>],
+) -> Result<(), Fail> {
+    for given in lines {
+        derive(alloc, proof, *given)??;
+    }
+    Ok(())
+}

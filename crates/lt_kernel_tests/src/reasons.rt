@@ -1,0 +1,143 @@
+//! Each reason of each rule.
+use crate::lines::{Given, declared, derivation, derive, gives, reason};
+use lt_hol::Reason;
+use lt_kernel::Proof;
+use lt_store::PlainStore;
+use std::alloc::Global;
+use std::process::Abort;
+use std::test::Fail;
+
+/// What the refused lines stand on. The next line is line 8.
+const FRONT: [Given<'static>; 7] = [
+    ("assume", "_", "p", 0, 0),
+    ("assume", "_", "Ip.q.", 0, 0),
+    ("refl", "_", "Nx", 0, 0),
+    ("refl", "_", "s", 0, 0),
+    ("assume", "_", "N=Nx.z.", 0, 0),
+    ("assume", "_", "N!N=z..", 0, 0),
+    ("assume", "_", "B=p.q.", 0, 0),
+];
+
+/// Lines about equations that look for a line that isn't there.
+const EQUATIONS_OF_NO_LINE: [Given<'static>; 9] = [
+    ("weaken", "_", "z", 0, 0),
+    ("sym", "_", "", 8, 0),
+    ("trans", "_", "", 0, 3),
+    ("trans", "_", "", 1, 8),
+    ("cong", "_", "", 0, 3),
+    ("cong", "_", "", 1, 0),
+    ("abs", "x", "N", 0, 0),
+    ("eqmp", "_", "", 8, 1),
+    ("eqmp", "_", "", 1, 0),
+];
+
+/// Further lines that look for one.
+const FORMULAS_OF_NO_LINE: [Given<'static>; 9] = [
+    ("impI", "_", "z", 8, 0),
+    ("mp", "_", "", 0, 1),
+    ("mp", "_", "", 1, 8),
+    ("allI", "x", "N", 9, 0),
+    ("allE", "_", "p", 0, 0),
+    ("iff", "_", "", 0, 2),
+    ("iff", "_", "", 1, 0),
+    ("inst", "x", "N p", 0, 0),
+    ("tinst", "a", "N", 8, 0),
+];
+
+/// Lines of equations, and their reasons.
+const EQUATIONS: [(Given<'static>, Reason); 12] = [
+    (("assume", "_", "z", 0, 0), Reason::NotBool),
+    (("weaken", "_", "z", 1, 0), Reason::NotBool),
+    (("sym", "_", "", 1, 0), Reason::NotEquation),
+    (("trans", "_", "", 1, 3), Reason::NotEquation),
+    (("trans", "_", "", 3, 1), Reason::NotEquation),
+    (("trans", "_", "", 5, 3), Reason::MiddleDiffers),
+    (("cong", "_", "", 1, 3), Reason::NotEquation),
+    (("cong", "_", "", 4, 1), Reason::NotEquation),
+    (("cong", "_", "", 3, 4), Reason::TypeDiffers),
+    (("cong", "_", "", 4, 4), Reason::TypeDiffers),
+    (("abs", "x", "N", 1, 0), Reason::NotEquation),
+    (("abs", "x", "N", 5, 0), Reason::VariableInHypothesis),
+];
+
+/// Lines of redexes and implications, and their reasons.
+const FORMULAS: [(Given<'static>, Reason); 8] = [
+    (("beta", "_", "sz.", 0, 0), Reason::NotRedex),
+    (("eta", "_", "s", 0, 0), Reason::NotRedex),
+    (("eta", "_", "N=u.u.NU", 0, 0), Reason::NotRedex),
+    (("eqmp", "_", "", 1, 1), Reason::NotEquation),
+    (("eqmp", "_", "", 7, 2), Reason::MiddleDiffers),
+    (("impI", "_", "z", 1, 0), Reason::NotBool),
+    (("mp", "_", "", 1, 1), Reason::NotImplication),
+    (("mp", "_", "", 2, 2), Reason::MiddleDiffers),
+];
+
+/// Lines of quantifiers and the rest, and their reasons.
+const QUANTIFIERS: [(Given<'static>, Reason); 11] = [
+    (("allI", "x", "N", 5, 0), Reason::VariableInHypothesis),
+    (("allE", "_", "z", 1, 0), Reason::NotForall),
+    (("allE", "_", "p", 6, 0), Reason::TypeDiffers),
+    (("iff", "_", "", 1, 2), Reason::NotImplication),
+    (("iff", "_", "", 2, 1), Reason::NotImplication),
+    (("iff", "_", "", 2, 2), Reason::MiddleDiffers),
+    (("inst", "x", "N p", 3, 0), Reason::TypeDiffers),
+    (("select", "_", "s", 0, 0), Reason::TypeDiffers),
+    (("select", "_", "p", 0, 0), Reason::TypeDiffers),
+    (("ccontr", "_", "z", 0, 0), Reason::NotBool),
+    (("thm", "l", "", 0, 0), Reason::UnknownLabel),
+];
+
+/// A proof with the lines that the refused ones stand on.
+fn fronted(alloc: Global) -> Result<Proof<PlainStore>, Fail> {
+    let mut proof = declared(alloc, PlainStore::new(alloc))?;
+    derivation(alloc, &mut proof, &FRONT)?;
+    Ok(proof)
+}
+
+/// Looks for the lines of refused ones.
+fn misses(
+    alloc: Global,
+    rt: &impl Abort,
+    proof: &mut Proof<PlainStore>,
+    lines: &[Given<'_>],
+) -> Result<(), Fail> {
+    for given in lines {
+        let answer = derive(alloc, proof, *given)?;
+        assert_eq!(rt; reason(answer), Some(Reason::MissingLine), "{given:?}");
+    }
+    Ok(())
+}
+
+/// Compares the reasons of refused lines.
+fn refuses(
+    alloc: Global,
+    rt: &impl Abort,
+    proof: &mut Proof<PlainStore>,
+    lines: &[(Given<'_>, Reason)],
+) -> Result<(), Fail> {
+    for (given, wanted) in lines {
+        let answer = derive(alloc, proof, *given)?;
+        assert_eq!(rt; reason(answer), Some(*wanted), "{given:?}");
+    }
+    Ok(())
+}
+
+#[test]
+fn lines_are_looked_for_first(rt: HostRuntime) -> Result<(), Fail> {
+    let alloc = rt.alloc();
+    let mut proof = fronted(alloc)?;
+    misses(alloc, &rt, &mut proof, &EQUATIONS_OF_NO_LINE)?;
+    misses(alloc, &rt, &mut proof, &FORMULAS_OF_NO_LINE)
+}
+
+#[test]
+fn each_rule_tells_its_reasons(rt: HostRuntime) -> Result<(), Fail> {
+    let alloc = rt.alloc();
+    let mut proof = fronted(alloc)?;
+    refuses(alloc, &rt, &mut proof, &EQUATIONS)?;
+    refuses(alloc, &rt, &mut proof, &FORMULAS)?;
+    refuses(alloc, &rt, &mut proof, &QUANTIFIERS)?;
+    assert!(rt; proof.sequent(8).is_none());
+    assert!(rt; gives(alloc, &mut proof, 7, "B=p.q. |- B=p.q.")?);
+    Ok(())
+}

@@ -1,0 +1,11 @@
+pub mod Codes
+pub mod Layout
+pub mod FreeNodes
+pub mod BoundNames
+pub mod Scopes
+pub mod NodeNames
+pub mod AlikeNodes
+pub mod Openings
+pub mod TypeInstances
+pub mod Numberings
+pub mod Counts
