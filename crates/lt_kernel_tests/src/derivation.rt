@@ -105,6 +105,7 @@ fn follow_all<S: TermStore + Drop>(
     follow(alloc, rt, proof, &FIRST)?;
     follow(alloc, rt, proof, &FUNCTIONS)?;
     follow(alloc, rt, proof, &LAST)?;
-    assert!(rt; proof.line(30).is_some() && proof.line(31).is_none());
+    let is_last = proof.line(30).is_some() && proof.line(31).is_none();
+    assert!(rt; is_last);
     Ok(())
 }

@@ -7,7 +7,7 @@ ghost use Rattle.lt_store.specs.Trees.{tree_at};
 use crate::machine::{name, parts, plain_type, terms};
 use lt_hol::{Name, Reason, Signature, Term, Ty};
 use lt_kernel::{Proof, RuleFault};
-use lt_store::{Id, PlainStore, TermStore};
+use lt_store::{Id, TermStore};
 use std::alloc::Global;
 use std::test::Fail;
 
@@ -256,10 +256,10 @@ pub fn reason(answer: Result<usize, RuleFault>) -> Option<Reason> {
     }
 }
 
-/// A proof whose lines are given. Each has to give a sequent.
-pub fn derivation(
+/// Derives lines, each of which has to give a sequent.
+pub fn derivation<S: TermStore + Drop>(
     alloc: Global,
-    proof: &mut Proof<PlainStore>,
+    proof: &mut Proof<S>,
     lines: &[Given<'_>],
 ) -> Result<(), Fail> {
     for given in lines {

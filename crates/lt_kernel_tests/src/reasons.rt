@@ -2,7 +2,7 @@
 use crate::lines::{Given, declared, derivation, derive, gives, reason};
 use lt_hol::Reason;
 use lt_kernel::Proof;
-use lt_store::PlainStore;
+use lt_store::{PlainStore, TermStore};
 use std::alloc::Global;
 use std::process::Abort;
 use std::test::Fail;
@@ -87,37 +87,32 @@ const QUANTIFIERS: [(Given<'static>, Reason); 11] = [
     (("thm", "l", "", 0, 0), Reason::UnknownLabel),
 ];
 
-/// A proof with the lines that the refused ones stand on.
-fn fronted(alloc: Global) -> Result<Proof<PlainStore>, Fail> {
-    let mut proof = declared(alloc, PlainStore::new(alloc))?;
-    derivation(alloc, &mut proof, &FRONT)?;
-    Ok(proof)
-}
-
 /// Looks for the lines of refused ones.
-fn misses(
+fn misses<S: TermStore + Drop>(
     alloc: Global,
     rt: &impl Abort,
-    proof: &mut Proof<PlainStore>,
+    proof: &mut Proof<S>,
     lines: &[Given<'_>],
 ) -> Result<(), Fail> {
     for given in lines {
         let answer = derive(alloc, proof, *given)?;
-        assert_eq!(rt; reason(answer), Some(Reason::MissingLine), "{given:?}");
+        let is = reason(answer);
+        assert_eq!(rt; is, Some(Reason::MissingLine), "{}", given.0);
     }
     Ok(())
 }
 
 /// Compares the reasons of refused lines.
-fn refuses(
+fn refuses<S: TermStore + Drop>(
     alloc: Global,
     rt: &impl Abort,
-    proof: &mut Proof<PlainStore>,
+    proof: &mut Proof<S>,
     lines: &[(Given<'_>, Reason)],
 ) -> Result<(), Fail> {
     for (given, wanted) in lines {
         let answer = derive(alloc, proof, *given)?;
-        assert_eq!(rt; reason(answer), Some(*wanted), "{given:?}");
+        let is = reason(answer);
+        assert_eq!(rt; is, Some(*wanted), "{}", given.0);
     }
     Ok(())
 }
@@ -125,19 +120,51 @@ fn refuses(
 #[test]
 fn lines_are_looked_for_first(rt: HostRuntime) -> Result<(), Fail> {
     let alloc = rt.alloc();
-    let mut proof = fronted(alloc)?;
-    misses(alloc, &rt, &mut proof, &EQUATIONS_OF_NO_LINE)?;
-    misses(alloc, &rt, &mut proof, &FORMULAS_OF_NO_LINE)
+    let mut proof = declared(alloc, PlainStore::new(alloc))?;
+    misses_all(alloc, &rt, &mut proof)
+}
+
+/// Looks for the lines of each rule that names lines.
+fn misses_all<S: TermStore + Drop>(
+    alloc: Global,
+    rt: &impl Abort,
+    proof: &mut Proof<S>,
+) -> Result<(), Fail> {
+    derivation(alloc, proof, &FRONT)?;
+    misses(alloc, rt, proof, &EQUATIONS_OF_NO_LINE)?;
+    misses(alloc, rt, proof, &FORMULAS_OF_NO_LINE)?;
+    has_front(alloc, rt, proof)
 }
 
 #[test]
 fn each_rule_tells_its_reasons(rt: HostRuntime) -> Result<(), Fail> {
     let alloc = rt.alloc();
-    let mut proof = fronted(alloc)?;
-    refuses(alloc, &rt, &mut proof, &EQUATIONS)?;
-    refuses(alloc, &rt, &mut proof, &FORMULAS)?;
-    refuses(alloc, &rt, &mut proof, &QUANTIFIERS)?;
-    assert!(rt; proof.sequent(8).is_none());
-    assert!(rt; gives(alloc, &mut proof, 7, "B=p.q. |- B=p.q.")?);
+    let mut proof = declared(alloc, PlainStore::new(alloc))?;
+    refuses_all(alloc, &rt, &mut proof)
+}
+
+/// Compares all reasons.
+fn refuses_all<S: TermStore + Drop>(
+    alloc: Global,
+    rt: &impl Abort,
+    proof: &mut Proof<S>,
+) -> Result<(), Fail> {
+    derivation(alloc, proof, &FRONT)?;
+    refuses(alloc, rt, proof, &EQUATIONS)?;
+    refuses(alloc, rt, proof, &FORMULAS)?;
+    refuses(alloc, rt, proof, &QUANTIFIERS)?;
+    has_front(alloc, rt, proof)
+}
+
+/// The lines are those before the refused ones, and no more.
+fn has_front<S: TermStore + Drop>(
+    alloc: Global,
+    rt: &impl Abort,
+    proof: &mut Proof<S>,
+) -> Result<(), Fail> {
+    let is_none = proof.sequent(8).is_none();
+    assert!(rt; is_none);
+    let is = gives(alloc, proof, 7, "B=p.q. |- B=p.q.")?;
+    assert!(rt; is);
     Ok(())
 }
