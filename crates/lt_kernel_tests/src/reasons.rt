@@ -7,8 +7,8 @@ use std::alloc::Global;
 use std::process::Abort;
 use std::test::Fail;
 
-/// What the refused lines stand on. The next line is line 8.
-const FRONT: [Given<'static>; 7] = [
+/// What the refused lines stand on. The next line is line 9.
+const FRONT: [Given<'static>; 8] = [
     ("assume", "_", "p", 0, 0),
     ("assume", "_", "Ip.q.", 0, 0),
     ("refl", "_", "Nx", 0, 0),
@@ -16,36 +16,37 @@ const FRONT: [Given<'static>; 7] = [
     ("assume", "_", "N=Nx.z.", 0, 0),
     ("assume", "_", "N!N=z..", 0, 0),
     ("assume", "_", "B=p.q.", 0, 0),
+    ("assume", "_", "Ip.p.", 0, 0),
 ];
 
 /// Lines about equations that look for a line that isn't there.
 const EQUATIONS_OF_NO_LINE: [Given<'static>; 9] = [
     ("weaken", "_", "z", 0, 0),
-    ("sym", "_", "", 8, 0),
+    ("sym", "_", "", 9, 0),
     ("trans", "_", "", 0, 3),
-    ("trans", "_", "", 1, 8),
+    ("trans", "_", "", 1, 9),
     ("cong", "_", "", 0, 3),
     ("cong", "_", "", 1, 0),
     ("abs", "x", "N", 0, 0),
-    ("eqmp", "_", "", 8, 1),
+    ("eqmp", "_", "", 9, 1),
     ("eqmp", "_", "", 1, 0),
 ];
 
 /// Further lines that look for one.
 const FORMULAS_OF_NO_LINE: [Given<'static>; 9] = [
-    ("impI", "_", "z", 8, 0),
+    ("impI", "_", "z", 9, 0),
     ("mp", "_", "", 0, 1),
-    ("mp", "_", "", 1, 8),
-    ("allI", "x", "N", 9, 0),
+    ("mp", "_", "", 1, 9),
+    ("allI", "x", "N", 10, 0),
     ("allE", "_", "p", 0, 0),
     ("iff", "_", "", 0, 2),
     ("iff", "_", "", 1, 0),
     ("inst", "x", "N p", 0, 0),
-    ("tinst", "a", "N", 8, 0),
+    ("tinst", "a", "N", 9, 0),
 ];
 
-/// Lines of equations, and their reasons.
-const EQUATIONS: [(Given<'static>, Reason); 12] = [
+/// Lines of assumptions and equations, and their reasons.
+const EQUATIONS: [(Given<'static>, Reason); 10] = [
     (("assume", "_", "z", 0, 0), Reason::NotBool),
     (("weaken", "_", "z", 1, 0), Reason::NotBool),
     (("sym", "_", "", 1, 0), Reason::NotEquation),
@@ -56,35 +57,41 @@ const EQUATIONS: [(Given<'static>, Reason); 12] = [
     (("cong", "_", "", 4, 1), Reason::NotEquation),
     (("cong", "_", "", 3, 4), Reason::TypeDiffers),
     (("cong", "_", "", 4, 4), Reason::TypeDiffers),
-    (("abs", "x", "N", 1, 0), Reason::NotEquation),
-    (("abs", "x", "N", 5, 0), Reason::VariableInHypothesis),
 ];
 
-/// Lines of redexes and implications, and their reasons.
-const FORMULAS: [(Given<'static>, Reason); 8] = [
+/// Lines of abstractions and `eqmp`, and their reasons.
+const ABSTRACTIONS: [(Given<'static>, Reason); 7] = [
+    (("abs", "x", "N", 1, 0), Reason::NotEquation),
+    (("abs", "x", "N", 5, 0), Reason::VariableInHypothesis),
     (("beta", "_", "sz.", 0, 0), Reason::NotRedex),
     (("eta", "_", "s", 0, 0), Reason::NotRedex),
     (("eta", "_", "N=u.u.NU", 0, 0), Reason::NotRedex),
     (("eqmp", "_", "", 1, 1), Reason::NotEquation),
     (("eqmp", "_", "", 7, 2), Reason::MiddleDiffers),
+];
+
+/// Lines of implications and statements, and their reasons.
+const IMPLICATIONS: [(Given<'static>, Reason); 8] = [
     (("impI", "_", "z", 1, 0), Reason::NotBool),
     (("mp", "_", "", 1, 1), Reason::NotImplication),
     (("mp", "_", "", 2, 2), Reason::MiddleDiffers),
-];
-
-/// Lines of quantifiers and the rest, and their reasons.
-const QUANTIFIERS: [(Given<'static>, Reason); 11] = [
-    (("allI", "x", "N", 5, 0), Reason::VariableInHypothesis),
-    (("allE", "_", "z", 1, 0), Reason::NotForall),
-    (("allE", "_", "p", 6, 0), Reason::TypeDiffers),
     (("iff", "_", "", 1, 2), Reason::NotImplication),
     (("iff", "_", "", 2, 1), Reason::NotImplication),
     (("iff", "_", "", 2, 2), Reason::MiddleDiffers),
+    // p --> q and p --> p: only the second comparison fails
+    (("iff", "_", "", 2, 8), Reason::MiddleDiffers),
+    (("thm", "l", "", 0, 0), Reason::UnknownLabel),
+];
+
+/// Lines of quantifiers, instances and axioms, and their reasons.
+const QUANTIFIERS: [(Given<'static>, Reason); 7] = [
+    (("allI", "x", "N", 5, 0), Reason::VariableInHypothesis),
+    (("allE", "_", "z", 1, 0), Reason::NotForall),
+    (("allE", "_", "p", 6, 0), Reason::TypeDiffers),
     (("inst", "x", "N p", 3, 0), Reason::TypeDiffers),
     (("select", "_", "s", 0, 0), Reason::TypeDiffers),
     (("select", "_", "p", 0, 0), Reason::TypeDiffers),
     (("ccontr", "_", "z", 0, 0), Reason::NotBool),
-    (("thm", "l", "", 0, 0), Reason::UnknownLabel),
 ];
 
 /// Looks for the lines of refused ones.
@@ -151,7 +158,8 @@ fn refuses_all<S: TermStore + Drop>(
 ) -> Result<(), Fail> {
     derivation(alloc, proof, &FRONT)?;
     refuses(alloc, rt, proof, &EQUATIONS)?;
-    refuses(alloc, rt, proof, &FORMULAS)?;
+    refuses(alloc, rt, proof, &ABSTRACTIONS)?;
+    refuses(alloc, rt, proof, &IMPLICATIONS)?;
     refuses(alloc, rt, proof, &QUANTIFIERS)?;
     has_front(alloc, rt, proof)
 }
@@ -162,9 +170,9 @@ fn has_front<S: TermStore + Drop>(
     rt: &impl Abort,
     proof: &mut Proof<S>,
 ) -> Result<(), Fail> {
-    let is_none = proof.sequent(8).is_none();
+    let is_none = proof.sequent(9).is_none();
     assert!(rt; is_none);
-    let is = gives(alloc, proof, 7, "B=p.q. |- B=p.q.")?;
+    let is = gives(alloc, proof, 8, "Ip.p. |- Ip.p.")?;
     assert!(rt; is);
     Ok(())
 }
