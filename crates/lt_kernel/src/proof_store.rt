@@ -1,4 +1,9 @@
-//! A proof as a store itself: that of its terms.
+//! A proof as a store itself: that of its terms. What is declared, the named statements and the lines stay.
+ghost use Rattle.std.specs.Prelude.{◌<◌, length, IfOk};
+ghost use Rattle.lt_store.specs.declared.node.Node.TheVariants.{Free, Bound, Const, App, Lam};
+ghost use Rattle.lt_store.specs.Trees.{Extends, Makes};
+ghost use Rattle.lt_kernel.specs.State.{Keeps};
+
 use crate::proof::Proof;
 use lt_hol::{Memory, Name, Ty, Tys};
 use lt_store::{Id, TermStore, View};
@@ -15,23 +20,46 @@ impl<S: TermStore + Drop> TermStore for Proof<S> {
         self.store.view(id)
     }
 
-    fn mk_free(&mut self, alloc: Global, name: Name, ty: Ty) -> Result<Id, Memory> {
+    fn mk_free(&mut self, alloc: Global, name: Name, ty: Ty) -> Result<Id, Memory>
+        ensures ok { IfOk result (Makes self.old.nodes self.new.nodes (Free name ty)) }
+        ensures kept { Extends self.old.nodes self.new.nodes }
+        ensures keeps { Keeps self.old self.new }
+    {
         self.store.mk_free(alloc, name, ty)
     }
 
-    fn mk_bound(&mut self, alloc: Global, index: usize) -> Result<Id, Memory> {
+    fn mk_bound(&mut self, alloc: Global, index: usize) -> Result<Id, Memory>
+        ensures ok { IfOk result (Makes self.old.nodes self.new.nodes (Bound index)) }
+        ensures kept { Extends self.old.nodes self.new.nodes }
+        ensures keeps { Keeps self.old self.new }
+    {
         self.store.mk_bound(alloc, index)
     }
 
-    fn mk_const(&mut self, alloc: Global, name: Name, types: Tys) -> Result<Id, Memory> {
+    fn mk_const(&mut self, alloc: Global, name: Name, types: Tys) -> Result<Id, Memory>
+        ensures ok { IfOk result (Makes self.old.nodes self.new.nodes (Const name types)) }
+        ensures kept { Extends self.old.nodes self.new.nodes }
+        ensures keeps { Keeps self.old self.new }
+    {
         self.store.mk_const(alloc, name, types)
     }
 
-    fn mk_app(&mut self, alloc: Global, f: Id, a: Id) -> Result<Id, Memory> {
+    fn mk_app(&mut self, alloc: Global, f: Id, a: Id) -> Result<Id, Memory>
+        requires f { f < length self.old.nodes }
+        requires a { a < length self.old.nodes }
+        ensures ok { IfOk result (Makes self.old.nodes self.new.nodes (App f a)) }
+        ensures kept { Extends self.old.nodes self.new.nodes }
+        ensures keeps { Keeps self.old self.new }
+    {
         self.store.mk_app(alloc, f, a)
     }
 
-    fn mk_lam(&mut self, alloc: Global, ty: Ty, body: Id) -> Result<Id, Memory> {
+    fn mk_lam(&mut self, alloc: Global, ty: Ty, body: Id) -> Result<Id, Memory>
+        requires { body < length self.old.nodes }
+        ensures ok { IfOk result (Makes self.old.nodes self.new.nodes (Lam ty body)) }
+        ensures kept { Extends self.old.nodes self.new.nodes }
+        ensures keeps { Keeps self.old self.new }
+    {
         self.store.mk_lam(alloc, ty, body)
     }
 
