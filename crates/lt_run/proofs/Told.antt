@@ -108,3 +108,26 @@ accepts_valid status files files' words file text items out out' err err' same t
     absurd (not_refused files files' words file text items out out' err err' same (told file are) are has walk (refused one))
 accepts_valid status files files' words file text items out out' err err' same told are has walk (inr (inr (inl two))) refused other = absurd (other two file are)
 accepts_valid status files files' words file text items out out' err err' same told are has walk (inr (inr (inr five))) refused other = inr five
+
+-- a text that is refused isn't accepted
+pub not_accepted : (files files' : Option Files) (words : List (List ℕ)) (file text : List ℕ) (items : List Item) (ending : Ending) (out out' err err' : Option (List ℕ))
+    → StaysSame files files' → StaysTold files files' file → AreWords words file → HasText files file text → Walk text items ending → ending ≢ Accepted
+    → (f : List ℕ) × AreWords words f × Ends files' f Accepted out out' err err' → ⊥
+unfolding Ends IsReported
+not_accepted files files' words file text items ending out out' err err' same told are has walk wrong (f, are', (other, is, (items', walk', grew), line)) =
+    let named : f ≡ file = cc (are, are') in
+    let one : text ≡ other = one_text files files' file text other same told has (subst (λ (z : List ℕ). IsTextOf files' z other) named is) in
+    let both = one_ending other items items' ending Accepted (subst (λ (z : List ℕ). Walk z items ending) one walk) walk' in
+    wrong both.1
+
+pub refuses_wrong : (status : ℕ) (files files' : Option Files) (words : List (List ℕ)) (file text : List ℕ) (items : List Item) (ending : Ending) (out out' err err' : Option (List ℕ))
+    → StaysSame files files' → ((g : List ℕ) → AreWords words g → StaysTold files files' g) → AreWords words file → HasText files file text → Walk text items ending → ending ≢ Accepted
+    → (status ≡ 0) ⊎ (status ≡ 1) ⊎ (status ≡ 2) ⊎ (status ≡ 5)
+    → (status ≡ 0 → (f : List ℕ) × AreWords words f × Ends files' f Accepted out out' err err')
+    → (status ≡ 2 → (g : List ℕ) → AreWords words g → ⊥)
+    → (status ≡ 1) ⊎ (status ≡ 5)
+refuses_wrong status files files' words file text items ending out out' err err' same told are has walk wrong (inl good) accepted other =
+    absurd (not_accepted files files' words file text items ending out out' err err' same (told file are) are has walk wrong (accepted good))
+refuses_wrong status files files' words file text items ending out out' err err' same told are has walk wrong (inr (inl one)) accepted other = inl one
+refuses_wrong status files files' words file text items ending out out' err err' same told are has walk wrong (inr (inr (inl two))) accepted other = absurd (other two file are)
+refuses_wrong status files files' words file text items ending out out' err err' same told are has walk wrong (inr (inr (inr five))) accepted other = inr five

@@ -44,6 +44,8 @@ pub fn lt<L: Library, O: Sink, E: Sink>(
     ensures same { StaysSame (L.files lib.old) (L.files lib.new) }
     // No other file is read: where the files are told and have the one that is named, they are told behind.
     ensures told { (file : List ℕ) → AreWords words.now file → StaysTold (L.files lib.old) (L.files lib.new) file }
+    // Other words read no file.
+    ensures untouched { ((file : List ℕ) → AreWords words.now file → ⊥) → lib.new ≡ lib.old }
 {
     let [mode, file] = words else {
         return refuse_words(err);

@@ -3,6 +3,7 @@ ghost use Rattle.std.specs.Prelude.{◌≡◌, ◌≢◌, ◌⊎◌, [], List, �
 ghost use Rattle.lt_definitions.specs.declared.walks.Ending.{Ending};
 ghost use Rattle.lt_definitions.specs.Items.{Item};
 ghost use Rattle.lt_definitions.specs.Walks.{Walk};
+ghost use Rattle.lt_io.specs.Files.{StaysSame, StaysTold};
 ghost use Rattle.lt_io.specs.InMemory.{told_files, told_bytes};
 ghost use Rattle.lt_io.specs.Written.{Grew};
 ghost use Rattle.lt_run.specs.Reports.{Ends, Stops, HasText};
@@ -29,9 +30,15 @@ pub fn lt_sure(
         × Grew (told_bytes out.old) (told_bytes out.new) [] × Grew (told_bytes err.old) (told_bytes err.new) usage }
     ensures front { result ≡ 5 → Grew (told_bytes out.old) (told_bytes out.new) []
         ⊎ ((file : List ℕ) × AreWords words.now file × Stops (told_files lib.new) file (told_bytes out.old) (told_bytes out.new)) }
+    ensures same { StaysSame (told_files lib.old) (told_files lib.new) }
+    ensures told { (file : List ℕ) → AreWords words.now file → StaysTold (told_files lib.old) (told_files lib.new) file }
+    ensures untouched { ((file : List ℕ) → AreWords words.now file → ⊥) → lib.new ≡ lib.old }
     // A valid theory is accepted, unless memory runs out.
     ensures complete { (file text : List ℕ) (items : List Item) → AreWords words.now file → HasText (told_files lib.old) file text
         → Walk text items Ending.Accepted → (result ≡ 0) ⊎ (result ≡ 5) }
+    // Any other text is refused, unless memory runs out.
+    ensures refusing { (file text : List ℕ) (items : List Item) (ending : Ending) → AreWords words.now file → HasText (told_files lib.old) file text
+        → Walk text items ending → ending ≢ Ending.Accepted → (result ≡ 1) ⊎ (result ≡ 5) }
 {
     lt(alloc, words, lib, out, err)
 }

@@ -26,3 +26,6 @@ returns-clause-read g c = λ three.
 pub returns-clause-front : goal.returns-clause-front
 returns-clause-front g c = λ stopped.
     stops_by_words _ c.args.words.now c.file-item.result _ _ (words_are g c) (rw c.as_str-2.ensures at (c.check_file.ensures.front stopped))
+
+pub returns-clause-untouched : goal.returns-clause-untouched
+returns-clause-untouched g c = λ none. absurd (none c.file-item.result (words_are g c))
