@@ -336,7 +336,7 @@ fn a_long_term_is_replaced_in(rt: HostRuntime) -> Result<(), Fail> {
     Ok(())
 }
 
-/// Each pass works on a term that was sixty times doubled: it makes three nodes at most for each that it finds.
+/// Each pass works on a term that was sixty times doubled: all together they make no more nodes than five such terms have.
 #[test]
 fn shared_parts_are_worked_on_once(rt: HostRuntime) -> Result<(), Fail> {
     let alloc = rt.alloc();
