@@ -1,5 +1,5 @@
 -- What tests know of their terms.
-use Rattle.std.proofs.Common.{◌≡◌, ℕ, ◌<◌, List, [], length, Ok, sym, ◌∙◌, subst}
+use Rattle.std.proofs.Common.{◌≡◌, ℕ, ◌<◌, List, [], length, Ok, sym, subst}
 use Rattle.lt_definitions.specs.Types.{TypeTree}
 use Rattle.lt_definitions.specs.Terms.{TermTree}
 use Rattle.lt_definitions.specs.Typing.{Signature, typed}
@@ -14,9 +14,9 @@ use Rattle.lt_store.proofs.Trees.{tree_at-extends}
 pub whole_typed : (sig : Signature) (t : TermTree) (ty : TypeTree) → typed sig [] t ≡ Ok ty → IsWhole 0 (nameless [] t)
 whole_typed sig t ty e = typed_is_whole sig t ty (typed-has sig [] t ty e)
 
-pub whole_as : (s t : Nameless) → s ≡ t → IsWhole 0 t → IsWhole 0 s
-whole_as s t e h = subst (IsWhole 0) (sym e) h
+pub whole_as : (depth : ℕ) (s t : Nameless) → s ≡ t → IsWhole depth t → IsWhole depth s
+whole_as depth s t e h = subst (IsWhole depth) (sym e) h
 
 -- an id stays whole as its store grows
 pub whole_on : (old new : List Node) (i : ℕ) → Extends old new → i < length old → IsWhole 0 (tree_at old i) → IsWhole 0 (tree_at new i)
-whole_on old new i e h w = whole_as _ _ (tree_at-extends old new i e h) w
+whole_on old new i e h w = whole_as 0 _ _ (tree_at-extends old new i e h) w

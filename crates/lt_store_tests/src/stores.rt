@@ -1,9 +1,9 @@
-//! The tests: each call once over the plain store, through the trait's bound, and long and shared terms.
+//! Each call of a store and each pass once over the plain store, through the trait's bound, and long and shared terms.
 use lt_store::{
-    Id, PlainStore, TermStore, View, abstract_free, from_store, has_free, has_loose, instantiate,
-    replace_free, to_store, type_at, type_instance, type_instances,
+    Id, PlainStore, TermStore, View, abstract_free, has_free, has_loose, instantiate, replace_free,
+    type_instance, type_instances,
 };
-use lt_types::{List, Memory, Name, Ty};
+use lt_types::{List, Memory, Name, TryCopy, Ty, TyMap};
 use std::alloc::Global;
 use std::process::Abort;
 use std::test::Fail;
@@ -132,61 +132,223 @@ fn a_term_is_opened_closed_and_replaced(rt: HostRuntime) -> Result<(), Fail> {
     Ok(())
 }
 
+/// `\x:ty. p x y` without binder names, where `p` has a type and `y` too.
+fn typed_at<S: TermStore>(
+    alloc: Global,
+    rt: &impl Abort,
+    store: &mut S,
+    ty: &Ty,
+) -> Result<Id, Memory> {
+    let mut types = List::new(alloc);
+    types.push(alloc, ty.copy(alloc)?)?;
+    let predicate = store.mk_const(alloc, name(alloc, rt, "p")?, types)?;
+    let x = store.mk_bound(alloc, 0)?;
+    let y = store.mk_free(alloc, name(alloc, rt, "y")?, ty.copy(alloc)?)?;
+    let half = apply(alloc, rt, store, predicate, x)?;
+    let body = apply(alloc, rt, store, half, y)?;
+    assert!(rt; body < store.len());
+    store.mk_lam(alloc, ty.copy(alloc)?, body)
+}
+
+/// A type put for a type variable in a constant, a free variable and a binder, over any store.
+fn puts_a_type<S: TermStore>(alloc: Global, rt: &impl Abort, store: &mut S) -> Result<(), Memory> {
+    let mut map = TyMap::new(alloc);
+    map.put(alloc, name(alloc, rt, "a")?, bool_type(alloc, rt)?)?;
+    let general = typed_at(alloc, rt, store, &Ty::var(alloc, name(alloc, rt, "a")?)?)?;
+    let other = typed_at(alloc, rt, store, &Ty::var(alloc, name(alloc, rt, "b")?)?)?;
+    let special = typed_at(alloc, rt, store, &bool_type(alloc, rt)?)?;
+
+    assert!(rt; general < store.len());
+    let made = type_instance(alloc, store, general, &map)?;
+    assert!(rt; are_same(alloc, rt, store, made, special)?);
+    assert!(rt; !are_same(alloc, rt, store, made, general)?);
+    assert!(rt; general < store.len() && other < store.len());
+    let each = type_instances(alloc, store, &[general, other], &map)?;
+    assert_eq!(rt; each.len(), 2);
+    assert!(rt; are_same(alloc, rt, store, *each.at(0), special)?);
+    assert!(rt; are_same(alloc, rt, store, *each.at(1), other)?);
+    Ok(())
+}
+
+#[test]
+fn types_are_put_for_type_variables(rt: HostRuntime) -> Result<(), Fail> {
+    let mut store = PlainStore::new(rt.alloc());
+    puts_a_type(rt.alloc(), &rt, &mut store)?;
+    Ok(())
+}
+
+/// Whether an id is shown as a node of that kind, with that name, index or child.
+fn is_shown<S: TermStore>(rt: &impl Abort, store: &S, id: Id, text: &str, part: usize) -> bool {
+    assert!(rt; id < store.len());
+    match store.view(id) {
+        View::Free(name, ty) => name.text() == text && ty.len() == part,
+        View::Bound(index) => text == "bound" && index == part,
+        View::Const(name, types) => name.text() == text && types.len() == part,
+        View::App(f, a) => text == "applied" && f < a && a == part,
+        View::Lam(ty, body) => text == "abstracted" && ty.len() == 1 && body == part,
+    }
+}
+
 #[test]
 fn nodes_are_shown_as_they_were_made(rt: HostRuntime) -> Result<(), Fail> {
     let alloc = rt.alloc();
     let mut store = PlainStore::new(alloc);
     let p = variable(alloc, &rt, &mut store, "p")?;
-    let whole = bind(alloc, &rt, &mut store, p)?;
-    assert!(rt; p < store.len() && whole < store.len());
-    assert!(rt; matches!(store.view(p), View::Free(_, _)));
-    assert!(rt; matches!(store.view(whole), View::Lam(_, body) if body == p));
-    assert_eq!(rt; store.len(), 2);
+    let hole = store.mk_bound(alloc, 7)?;
+    let whole = apply(alloc, &rt, &mut store, p, hole)?;
+    let covered = bind(alloc, &rt, &mut store, whole)?;
+    let constant = store.mk_const(alloc, name(alloc, &rt, "imp")?, List::new(alloc))?;
+    assert!(rt; is_shown(&rt, &store, p, "p", 1));
+    assert!(rt; is_shown(&rt, &store, hole, "bound", 7));
+    assert!(rt; is_shown(&rt, &store, whole, "applied", hole));
+    assert!(rt; is_shown(&rt, &store, covered, "abstracted", whole));
+    assert!(rt; is_shown(&rt, &store, constant, "imp", 0));
+    assert_eq!(rt; store.len(), 5);
     Ok(())
 }
 
-/// A term of 100,000 nested implications is opened, and compared with itself opened again.
+/// `p --> (p --> .. (p --> end))` with so many arrows.
+fn chain<S: TermStore>(
+    alloc: Global,
+    rt: &impl Abort,
+    store: &mut S,
+    end: Id,
+    arrows: usize,
+) -> Result<Id, Memory> {
+    let p = variable(alloc, rt, store, "p")?;
+    let imp = store.mk_const(alloc, name(alloc, rt, "imp")?, List::new(alloc))?;
+    let half = apply(alloc, rt, store, imp, p)?;
+    let mut term = end;
+    for _ in 0..arrows {
+        term = apply(alloc, rt, store, half, term)?;
+    }
+    Ok(term)
+}
+
+/// An implication of a term with itself, so many times over: as a tree it has two to that power of leaves.
+fn doubled<S: TermStore>(
+    alloc: Global,
+    rt: &impl Abort,
+    store: &mut S,
+    leaf: Id,
+    times: usize,
+) -> Result<Id, Memory> {
+    let mut term = leaf;
+    for _ in 0..times {
+        term = implies(alloc, rt, store, term, term)?;
+    }
+    Ok(term)
+}
+
+/// A body that ends in the bound name 0 is opened by a variable, closed over it again, and compared.
+fn goes_there_and_back<S: TermStore>(
+    alloc: Global,
+    rt: &impl Abort,
+    store: &mut S,
+    body: Id,
+    opened: Id,
+) -> Result<(), Memory> {
+    let x = name(alloc, rt, "x")?;
+    let bool = bool_type(alloc, rt)?;
+    let variable = variable(alloc, rt, store, "x")?;
+    assert!(rt; body < store.len() && variable < store.len());
+    let made = instantiate(alloc, store, body, variable)?;
+    assert!(rt; are_same(alloc, rt, store, made, opened)?);
+    assert!(rt; !are_same(alloc, rt, store, made, body)?);
+    assert!(rt; made < store.len());
+    let closed = abstract_free(alloc, store, made, &x, &bool)?;
+    assert!(rt; are_same(alloc, rt, store, closed, body)?);
+    Ok(())
+}
+
+/// What is searched for in a body that ends in the bound name 0, and in the same with `x` there, is found in one.
+fn is_found<S: TermStore>(
+    alloc: Global,
+    rt: &impl Abort,
+    store: &mut S,
+    body: Id,
+    opened: Id,
+) -> Result<(), Memory> {
+    let x = name(alloc, rt, "x")?;
+    let bool = bool_type(alloc, rt)?;
+    assert!(rt; body < store.len());
+    assert!(rt; !has_free(alloc, store, &[body], &x, &bool)?);
+    assert!(rt; body < store.len() && opened < store.len());
+    assert!(rt; has_free(alloc, store, &[body, opened], &x, &bool)?);
+    assert!(rt; body < store.len());
+    assert!(rt; has_loose(alloc, store, body)?);
+    assert!(rt; opened < store.len());
+    assert!(rt; !has_loose(alloc, store, opened)?);
+    Ok(())
+}
+
+/// The variable `x` of a term is replaced by itself, and its types by themselves.
+fn stays<S: TermStore>(
+    alloc: Global,
+    rt: &impl Abort,
+    store: &mut S,
+    opened: Id,
+) -> Result<(), Memory> {
+    let x = name(alloc, rt, "x")?;
+    let bool = bool_type(alloc, rt)?;
+    let variable = variable(alloc, rt, store, "x")?;
+    assert!(rt; opened < store.len() && variable < store.len());
+    let replaced = replace_free(alloc, store, &[opened], &x, &bool, variable)?;
+    assert_eq!(rt; replaced.len(), 1);
+    assert!(rt; are_same(alloc, rt, store, *replaced.at(0), opened)?);
+    assert!(rt; opened < store.len());
+    let made = type_instance(alloc, store, opened, &TyMap::new(alloc))?;
+    assert!(rt; are_same(alloc, rt, store, made, opened)?);
+    Ok(())
+}
+
 #[test]
-fn long_terms_need_no_stack(rt: HostRuntime) -> Result<(), Fail> {
+fn a_long_term_is_opened_and_closed(rt: HostRuntime) -> Result<(), Fail> {
     let alloc = rt.alloc();
     let mut store = PlainStore::new(alloc);
-    let p = variable(alloc, &rt, &mut store, "p")?;
-    let imp = store.mk_const(alloc, name(alloc, &rt, "imp")?, List::new(alloc))?;
     let hole = store.mk_bound(alloc, 0)?;
-    let half = apply(alloc, &rt, &mut store, imp, p)?;
-    let mut chain = hole;
-    for _ in 0..100_000 {
-        chain = apply(alloc, &rt, &mut store, half, chain)?;
-    }
-    assert!(rt; chain < store.len() && p < store.len());
-    let opened = instantiate(alloc, &mut store, chain, p)?;
-    assert!(rt; chain < store.len() && p < store.len());
-    let again = instantiate(alloc, &mut store, chain, p)?;
-    assert!(rt; are_same(alloc, &rt, &store, opened, again)?);
-    assert!(rt; !are_same(alloc, &rt, &store, opened, chain)?);
+    let x = variable(alloc, &rt, &mut store, "x")?;
+    let body = chain(alloc, &rt, &mut store, hole, 100_000)?;
+    let opened = chain(alloc, &rt, &mut store, x, 100_000)?;
+    goes_there_and_back(alloc, &rt, &mut store, body, opened)?;
     Ok(())
 }
 
-/// A variable is sixty times replaced by an implication of itself with itself: as a tree the term has 2^60 leaves,
-/// and each pass makes two nodes for each that it finds.
+#[test]
+fn a_long_term_is_searched(rt: HostRuntime) -> Result<(), Fail> {
+    let alloc = rt.alloc();
+    let mut store = PlainStore::new(alloc);
+    let hole = store.mk_bound(alloc, 0)?;
+    let x = variable(alloc, &rt, &mut store, "x")?;
+    let body = chain(alloc, &rt, &mut store, hole, 100_000)?;
+    let opened = chain(alloc, &rt, &mut store, x, 100_000)?;
+    is_found(alloc, &rt, &mut store, body, opened)?;
+    Ok(())
+}
+
+#[test]
+fn a_long_term_is_replaced_in(rt: HostRuntime) -> Result<(), Fail> {
+    let alloc = rt.alloc();
+    let mut store = PlainStore::new(alloc);
+    let x = variable(alloc, &rt, &mut store, "x")?;
+    let opened = chain(alloc, &rt, &mut store, x, 100_000)?;
+    stays(alloc, &rt, &mut store, opened)?;
+    Ok(())
+}
+
+/// Each pass works on a term that was sixty times doubled: all together they make no more nodes than five such terms have.
 #[test]
 fn shared_parts_are_worked_on_once(rt: HostRuntime) -> Result<(), Fail> {
     let alloc = rt.alloc();
     let mut store = PlainStore::new(alloc);
-    let x = name(alloc, &rt, "x")?;
-    let bool = bool_type(alloc, &rt)?;
-    let leaf = variable(alloc, &rt, &mut store, "x")?;
-    let by = implies(alloc, &rt, &mut store, leaf, leaf)?;
-    let mut term = leaf;
-    for _ in 0..60 {
-        assert!(rt; term < store.len() && by < store.len());
-        let made = replace_free(alloc, &mut store, &[term], &x, &bool, by)?;
-        assert_eq!(rt; made.len(), 1);
-        term = *made.at(0);
-    }
-    assert!(rt; store.len() < 60 * 61 * 2);
-    assert!(rt; term < store.len());
-    assert!(rt; has_free(alloc, &mut store, &[term], &x, &bool)?);
-    assert!(rt; are_same(alloc, &rt, &store, term, term)?);
+    let hole = store.mk_bound(alloc, 0)?;
+    let x = variable(alloc, &rt, &mut store, "x")?;
+    let body = doubled(alloc, &rt, &mut store, hole, 60)?;
+    let opened = doubled(alloc, &rt, &mut store, x, 60)?;
+    assert_eq!(rt; store.len(), 362);
+    goes_there_and_back(alloc, &rt, &mut store, body, opened)?;
+    is_found(alloc, &rt, &mut store, body, opened)?;
+    stays(alloc, &rt, &mut store, opened)?;
+    assert!(rt; store.len() < 362 + 5 * 182);
     Ok(())
 }

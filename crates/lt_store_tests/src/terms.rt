@@ -5,11 +5,8 @@ ghost use Rattle.lt_store.specs.Trees.{tree_at, Extends};
 
 use crate::stores::{bool_type, name};
 use lt_hol::{Signature, Term, TermNode, TypeFault};
-use lt_store::{
-    Id, PlainStore, TermStore, View, abstract_free, from_store, has_free, has_loose, instantiate,
-    replace_free, to_store, type_at, type_instance, type_instances,
-};
-use lt_types::{List, Memory, TryCopy, Ty};
+use lt_store::{Id, PlainStore, TermStore, from_store, to_store, type_at};
+use lt_types::{List, Memory, Name, TryCopy, Ty, Tys};
 use std::alloc::Global;
 use std::process::Abort;
 use std::test::Fail;
@@ -73,28 +70,44 @@ fn type_applied<S: TermStore>(
     type_at(alloc, store, sig, whole)
 }
 
-/// The type of a boolean variable applied to itself.
-fn type_misapplied<S: TermStore>(
+/// The type of a constant in a store.
+fn type_of_constant<S: TermStore>(
     alloc: Global,
-    rt: &impl Abort,
     store: &mut S,
     sig: &Signature,
+    name: Name,
+    types: Tys,
 ) -> Result<Ty, TypeFault> {
-    let p = store.mk_free(alloc, name(alloc, rt, "p")?, bool_type(alloc, rt)?)?;
-    type_applied(alloc, store, sig, p, p)
+    let c = store.mk_const(alloc, name, types)?;
+    type_at(alloc, store, sig, c)
 }
 
-/// The type of a constant that isn't declared, applied to a variable of a type that isn't.
-fn type_undeclared<S: TermStore>(
+/// The type of a variable of one type applied to a variable of another.
+fn type_of_application<S: TermStore>(
     alloc: Global,
-    rt: &impl Abort,
     store: &mut S,
     sig: &Signature,
+    name: Name,
+    of: Ty,
+    argument: Ty,
 ) -> Result<Ty, TypeFault> {
-    let c = store.mk_const(alloc, name(alloc, rt, "c")?, List::new(alloc))?;
-    let ty = Ty::con(alloc, name(alloc, rt, "t")?, List::new(alloc))?;
-    let x = store.mk_free(alloc, name(alloc, rt, "x")?, ty)?;
-    type_applied(alloc, store, sig, c, x)
+    let f = store.mk_free(alloc, name.copy(alloc)?, of)?;
+    let a = store.mk_free(alloc, name, argument)?;
+    type_applied(alloc, store, sig, f, a)
+}
+
+/// The type of an abstraction over a binder of one type, whose body is a variable of another.
+fn type_of_abstraction<S: TermStore>(
+    alloc: Global,
+    store: &mut S,
+    sig: &Signature,
+    name: Name,
+    binder: Ty,
+    of: Ty,
+) -> Result<Ty, TypeFault> {
+    let body = store.mk_free(alloc, name, of)?;
+    let whole = store.mk_lam(alloc, binder, body)?;
+    type_at(alloc, store, sig, whole)
 }
 
 /// An implication of a term with itself.
@@ -191,29 +204,125 @@ fn types_are_found_in_a_store(rt: HostRuntime) -> Result<(), Fail> {
     Ok(())
 }
 
+/// A type constructor of that name without arguments.
+fn simple(alloc: Global, rt: &impl Abort, text: &str) -> Result<Ty, Memory> {
+    Ty::con(alloc, name(alloc, rt, text)?, List::new(alloc))
+}
+
+/// Type constructors of those names without arguments.
+fn simple_types(alloc: Global, rt: &impl Abort, texts: &[&str]) -> Result<Tys, Memory> {
+    let mut types = List::new(alloc);
+    for text in texts {
+        types.push(alloc, simple(alloc, rt, text)?)?;
+    }
+    Ok(types)
+}
+
+/// Whether an outcome is of that kind, with that name.
+fn is_told(outcome: &Result<Ty, TypeFault>, kind: &str, text: &str) -> bool {
+    match outcome {
+        Ok(_) => kind == "type",
+        Err(TypeFault::UnknownType(name)) => kind == "unknown type" && name.text() == text,
+        Err(TypeFault::Arity(name)) => kind == "arity" && name.text() == text,
+        Err(TypeFault::UnknownConst(name)) => kind == "unknown constant" && name.text() == text,
+        Err(TypeFault::TypeArgs(name)) => kind == "type arguments" && name.text() == text,
+        Err(TypeFault::Mismatch(_, _)) => kind == "mismatch",
+        Err(_) => false,
+    }
+}
+
 #[test]
-fn first_faults_are_told(rt: HostRuntime) -> Result<(), Fail> {
+fn faults_of_constants_are_told(rt: HostRuntime) -> Result<(), Fail> {
     let alloc = rt.alloc();
     let sig = Signature::new(alloc)?;
     let mut store = PlainStore::new(alloc);
-    let bool = bool_type(alloc, &rt)?;
-    let misapplied = type_misapplied(alloc, &rt, &mut store, &sig);
-    assert!(rt; matches!(&misapplied, Err(TypeFault::Mismatch(f, a)) if *f == bool && *a == bool));
-    let undeclared = type_undeclared(alloc, &rt, &mut store, &sig);
-    assert!(rt; matches!(&undeclared, Err(TypeFault::UnknownConst(c)) if c.text() == "c"));
+    let cases: [(&str, &[&str], &str, &str); 7] = [
+        ("eq", &["bool"], "type", ""),
+        ("c", &[], "unknown constant", "c"),
+        ("c", &["odd"], "unknown constant", "c"),
+        ("eq", &[], "type arguments", "eq"),
+        ("imp", &["odd"], "type arguments", "imp"),
+        ("eq", &["odd"], "unknown type", "odd"),
+        ("eq", &["fun"], "arity", "fun"),
+    ];
+    for (constant, types, kind, text) in cases {
+        let constant = name(alloc, &rt, constant)?;
+        let types = simple_types(alloc, &rt, types)?;
+        let outcome = type_of_constant(alloc, &mut store, &sig, constant, types);
+        assert!(rt; is_told(&outcome, kind, text), "{kind} {text}");
+    }
     Ok(())
 }
 
-/// A term under 20,001 binders whose body is the outermost one's name.
 #[test]
-fn deep_terms_need_no_stack(rt: HostRuntime) -> Result<(), Fail> {
+fn the_first_fault_is_told(rt: HostRuntime) -> Result<(), Fail> {
     let alloc = rt.alloc();
     let sig = Signature::new(alloc)?;
     let mut store = PlainStore::new(alloc);
-    let t = deep(alloc, &rt, 20_000)?;
+    for (first, second, applied, abstracted, text) in [
+        ("one", "two", "unknown type", "unknown type", "one"),
+        ("fun", "two", "arity", "arity", "fun"),
+        ("bool", "two", "unknown type", "unknown type", "two"),
+        ("bool", "fun", "arity", "arity", "fun"),
+        ("bool", "bool", "mismatch", "type", ""),
+    ] {
+        let (x, from, to) = (
+            name(alloc, &rt, "x")?,
+            simple(alloc, &rt, first)?,
+            simple(alloc, &rt, second)?,
+        );
+        let outcome = type_of_application(alloc, &mut store, &sig, x, from, to);
+        assert!(rt;
+            is_told(&outcome, applied, text),
+            "{first} applied to {second}"
+        );
+        let (x, from, to) = (
+            name(alloc, &rt, "x")?,
+            simple(alloc, &rt, first)?,
+            simple(alloc, &rt, second)?,
+        );
+        let outcome = type_of_abstraction(alloc, &mut store, &sig, x, from, to);
+        assert!(rt;
+            is_told(&outcome, abstracted, text),
+            "{first} over {second}"
+        );
+    }
+    Ok(())
+}
+
+/// A function from bool to bool, applied to a variable of any type.
+#[test]
+fn a_mismatch_tells_both_types(rt: HostRuntime) -> Result<(), Fail> {
+    let alloc = rt.alloc();
+    let sig = Signature::new(alloc)?;
+    let mut store = PlainStore::new(alloc);
+    let operator = Ty::fun(alloc, bool_type(alloc, &rt)?, bool_type(alloc, &rt)?)?;
+    let any = Ty::var(alloc, name(alloc, &rt, "a")?)?;
+    let (f, a) = (operator.copy(alloc)?, any.copy(alloc)?);
+    let outcome = type_of_application(alloc, &mut store, &sig, name(alloc, &rt, "f")?, f, a);
+    assert!(rt; matches!(&outcome, Err(TypeFault::Mismatch(f, a)) if *f == operator && *a == any));
+    Ok(())
+}
+
+/// A term under 100,001 binders whose body is the outermost one's name.
+#[test]
+fn a_deep_term_goes_in_and_comes_out(rt: HostRuntime) -> Result<(), Fail> {
+    let alloc = rt.alloc();
+    let sig = Signature::new(alloc)?;
+    let mut store = PlainStore::new(alloc);
+    let t = deep(alloc, &rt, 100_000)?;
     let back = known(taken_out(alloc, &mut store, &sig, &t))?;
-    assert_eq!(rt; back.len(), 20_002);
-    let ty = known(typed_there(alloc, &mut store, &sig, &t))?;
+    assert_eq!(rt; back.len(), 100_002);
+    Ok(())
+}
+
+/// The type of a term under 20,001 such binders.
+#[test]
+fn the_type_of_a_deep_term_is_found(rt: HostRuntime) -> Result<(), Fail> {
+    let alloc = rt.alloc();
+    let sig = Signature::new(alloc)?;
+    let mut store = PlainStore::new(alloc);
+    let ty = known(typed_there(alloc, &mut store, &sig, &deep(alloc, &rt, 20_000)?))?;
     assert_eq!(rt; ty.len(), 40_003);
     Ok(())
 }

@@ -7,5 +7,5 @@ mk_app-whole-requires-clause-a g c = omega (arith, c.requires.t, c.in_ok-half.en
 
 pub returns-clause-whole : goal.returns-clause-whole
 returns-clause-whole g c =
-    whole_as _ _ c.in_ok-whole.ensures.ok.stands
-    (whole_as _ _ c.in_ok-half.ensures.ok.stands (c.requires.whole_imp, c.requires.whole), whole_on _ _ _ c.in_ok-half.ensures.kept c.requires.t c.requires.whole)
+    whole_as 0 _ _ c.in_ok-whole.ensures.ok.stands
+    (whole_as 0 _ _ c.in_ok-half.ensures.ok.stands (c.requires.whole_imp, c.requires.whole), whole_on _ _ _ c.in_ok-half.ensures.kept c.requires.t c.requires.whole)
