@@ -39,17 +39,29 @@ pub fn closes_to(alloc: Global, t: &Term, wanted: &Term) -> Result<bool, Fail> {
     Ok(alpha_eq(alloc, &closed, wanted)?)
 }
 
+/// Whether the opening of an abstraction by another term is alpha-equal to a third.
+fn opens_by(alloc: Global, abstraction: &str, by: &str, wanted: &str) -> Result<bool, Fail> {
+    let opened = open_binder(alloc, &term(alloc, abstraction)?, &term(alloc, by)?)?;
+    match &opened {
+        Some(opened) => Ok(alpha_eq(alloc, opened, &term(alloc, wanted)?)?),
+        None => Ok(false),
+    }
+}
+
+/// Whether a term can't be opened.
+fn is_closed(alloc: Global, text: &str) -> Result<bool, Fail> {
+    let t = term(alloc, text)?;
+    Ok(open_binder(alloc, &t, &t)?.is_none())
+}
+
 #[test]
 fn an_opening_may_hide_a_loose_name(rt: HostRuntime) -> Result<(), Fail> {
     let alloc = rt.alloc();
     // \x (\y %x), opened by the loose name y
-    let opened = open_binder(alloc, &term(alloc, "uBVBU")?, &term(alloc, "v")?)?;
-    let opened = opened.ok_or("no abstraction")?;
-    assert!(rt; alpha_eq(alloc, &opened, &term(alloc, "vBV")?)?);
-    for text in ["u", "Bx", "I", "uBUBx."] {
-        let t = term(alloc, text)?;
-        assert!(rt; open_binder(alloc, &t, &t)?.is_none(), "{text}");
-    }
+    assert!(rt; opens_by(alloc, "uBVBU", "v", "vBV")?);
+    assert!(rt; !opens_by(alloc, "uBVBU", "v", "vBW")?);
+    assert!(rt; is_closed(alloc, "u")? && is_closed(alloc, "I")?);
+    assert!(rt; is_closed(alloc, "Bx")? && is_closed(alloc, "uBUBx.")?);
     Ok(())
 }
 

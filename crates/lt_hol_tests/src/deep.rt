@@ -88,16 +88,23 @@ fn deep_abstractions_are_typed(rt: HostRuntime) -> Result<(), Fail> {
 }
 
 #[test]
-fn deep_abstractions_are_compared_opened_and_closed(rt: HostRuntime) -> Result<(), Fail> {
+fn deep_abstractions_are_compared(rt: HostRuntime) -> Result<(), Fail> {
     let alloc = rt.alloc();
     let bool = Ty::bool(alloc)?;
     let t = abstractions(alloc, &bool, term(alloc, "u")?)?;
     let other = abstractions(alloc, &bool, term(alloc, "v")?)?;
-    assert!(rt; alpha_eq(alloc, &t, &t.copy(alloc)?)?);
+    assert!(rt; is_its_copy(alloc, &t)?);
     assert!(rt; !alpha_eq(alloc, &t, &other)?);
+    Ok(())
+}
+
+#[test]
+fn deep_abstractions_are_opened_and_closed(rt: HostRuntime) -> Result<(), Fail> {
+    let alloc = rt.alloc();
+    let bool = Ty::bool(alloc)?;
     let opened = hidden(alloc, &bool, term(alloc, "Bx")?)?;
-    assert!(rt; opens_to(alloc, &t, &opened)?);
-    assert!(rt; closes_to(alloc, &opened, &t)?);
+    let bound = hidden(alloc, &bool, term(alloc, "u")?)?;
+    assert!(rt; go_to_and_fro(alloc, &opened, bound)?);
     Ok(())
 }
 
@@ -142,39 +149,62 @@ fn saturated(alloc: Global, function: Term, argument: &Term) -> Result<Term, Fai
     one_term(builder)
 }
 
+/// A function of many arguments, applied to all of them.
+fn full(alloc: Global, from: &Ty, to: &Ty) -> Result<Term, Fail> {
+    let f = Term::free(alloc, name(alloc, "f")?, functions(alloc, from, to)?)?;
+    saturated(alloc, f, &term(alloc, "Ax")?)
+}
+
 #[test]
 fn deep_applications_are_typed(rt: HostRuntime) -> Result<(), Fail> {
     let alloc = rt.alloc();
     let sig = Signature::new(alloc)?;
     let (a, bool) = (ty(alloc, "A")?, Ty::bool(alloc)?);
-    let f = Term::free(alloc, name(alloc, "f")?, functions(alloc, &a, &bool)?)?;
-    let t = saturated(alloc, f, &term(alloc, "Ax")?)?;
+    let t = full(alloc, &a, &bool)?;
     assert!(rt; sig.type_of(alloc, &t)? == bool);
     let nested = applications(alloc, &term(alloc, "AA>z")?, &term(alloc, "Ax")?)?;
     assert!(rt; sig.type_of(alloc, &nested)? == a);
     Ok(())
 }
 
-#[test]
-fn deep_applications_are_compared_opened_and_closed(rt: HostRuntime) -> Result<(), Fail> {
-    let alloc = rt.alloc();
-    let f = term(alloc, "BB>z")?;
-    let (t, other) = (
-        applications(alloc, &f, &term(alloc, "Bx")?)?,
-        applications(alloc, &f, &term(alloc, "By")?)?,
-    );
-    assert!(rt; alpha_eq(alloc, &t, &t.copy(alloc)?)? && !alpha_eq(alloc, &t, &other)?);
-    let bound = applications(alloc, &f, &term(alloc, "u")?)?;
+/// Whether a term and its abstraction over x of type `bool` are opened and closed to each other.
+fn go_to_and_fro(alloc: Global, t: &Term, bound: Term) -> Result<bool, Fail> {
     let abstraction = Term::lam(alloc, name(alloc, "x")?, Ty::bool(alloc)?, bound)?;
-    assert!(rt; opens_to(alloc, &abstraction, &t)?);
-    assert!(rt; closes_to(alloc, &t, &abstraction)?);
-    let put = subst_free(
-        alloc,
-        &t,
-        &name(alloc, "x")?,
-        &Ty::bool(alloc)?,
-        &term(alloc, "By")?,
-    )?;
-    assert!(rt; same_up_to_types(alloc, &put, &other)?);
+    Ok(opens_to(alloc, &abstraction, t)? && closes_to(alloc, t, &abstraction)?)
+}
+
+/// Whether a term with y put for x, both of type `bool`, is another.
+fn is_with_y(alloc: Global, t: &Term, other: &Term) -> Result<bool, Fail> {
+    let (x, y) = (name(alloc, "x")?, term(alloc, "By")?);
+    let put = subst_free(alloc, t, &x, &Ty::bool(alloc)?, &y)?;
+    Ok(same_up_to_types(alloc, &put, other)?)
+}
+
+/// Whether a term is alpha-equal to its copy.
+fn is_its_copy(alloc: Global, t: &Term) -> Result<bool, Fail> {
+    Ok(alpha_eq(alloc, t, &t.copy(alloc)?)?)
+}
+
+/// An application of z again and again to a term.
+fn chain(alloc: Global, argument: &str) -> Result<Term, Fail> {
+    applications(alloc, &term(alloc, "BB>z")?, &term(alloc, argument)?)
+}
+
+#[test]
+fn deep_applications_are_compared(rt: HostRuntime) -> Result<(), Fail> {
+    let alloc = rt.alloc();
+    let t = chain(alloc, "Bx")?;
+    let other = chain(alloc, "By")?;
+    assert!(rt; is_its_copy(alloc, &t)?);
+    assert!(rt; !alpha_eq(alloc, &t, &other)?);
+    assert!(rt; is_with_y(alloc, &t, &other)?);
+    Ok(())
+}
+
+#[test]
+fn deep_applications_are_opened_and_closed(rt: HostRuntime) -> Result<(), Fail> {
+    let alloc = rt.alloc();
+    let t = chain(alloc, "Bx")?;
+    assert!(rt; go_to_and_fro(alloc, &t, chain(alloc, "u")?)?);
     Ok(())
 }

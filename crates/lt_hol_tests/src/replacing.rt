@@ -22,16 +22,27 @@ const INSTANCES: [(&str, &str); 5] = [
     ("AC>!u.AU", "BA>!u.BU"),
 ];
 
+/// Whether a term with types put is alpha-equal to another.
+fn becomes(alloc: Global, text: &str, wanted: &str) -> Result<bool, Fail> {
+    let put = instance(alloc, &term(alloc, text)?)?;
+    Ok(alpha_eq(alloc, &put, &term(alloc, wanted)?)?)
+}
+
+/// Whether the abstraction over x of type `bool` of a term with types put is alpha-equal to another.
+fn closes_as(alloc: Global, text: &str, wanted: &str) -> Result<bool, Fail> {
+    let put = instance(alloc, &term(alloc, text)?)?;
+    closes_to(alloc, &put, &term(alloc, wanted)?)
+}
+
 #[test]
 fn a_type_instance_captures_nothing(rt: HostRuntime) -> Result<(), Fail> {
     let alloc = rt.alloc();
     // \x 'a ($x bool)
-    let put = instance(alloc, &term(alloc, "BxAU")?)?;
-    assert!(rt; alpha_eq(alloc, &put, &term(alloc, "BxBV")?)?);
-    assert!(rt; !alpha_eq(alloc, &put, &term(alloc, "uBU")?)?);
+    assert!(rt; becomes(alloc, "BxAU", "BxBV")?);
+    assert!(rt; !becomes(alloc, "BxAU", "uBU")?);
     // \y bool (\z bool %y)
-    assert!(rt; closes_to(alloc, &put, &term(alloc, "vBWBV")?)?);
-    assert!(rt; closes_to(alloc, &term(alloc, "Bx")?, &term(alloc, "vBV")?)?);
+    assert!(rt; closes_as(alloc, "BxAU", "vBWBV")?);
+    assert!(rt; closes_as(alloc, "Bx", "vBV")?);
     Ok(())
 }
 
@@ -39,8 +50,7 @@ fn a_type_instance_captures_nothing(rt: HostRuntime) -> Result<(), Fail> {
 fn types_are_put_all_at_once(rt: HostRuntime) -> Result<(), Fail> {
     let alloc = rt.alloc();
     for (text, wanted) in &INSTANCES {
-        let put = instance(alloc, &term(alloc, text)?)?;
-        assert!(rt; alpha_eq(alloc, &put, &term(alloc, wanted)?)?, "{text}");
+        assert!(rt; becomes(alloc, text, wanted)?, "{text}");
     }
     Ok(())
 }

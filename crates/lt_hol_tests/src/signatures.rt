@@ -1,7 +1,7 @@
 //! Declarations of types and constants.
 use crate::texts::{name, ty};
 use crate::typing::is_fault;
-use lt_hol::{SigMark, Signature, TypeFault};
+use lt_hol::{Signature, TypeFault};
 use std::alloc::Global;
 use std::test::Fail;
 
@@ -29,36 +29,58 @@ fn has_type(alloc: Global, sig: &Signature, text: &str, wanted: &str) -> Result<
     }
 }
 
+/// Whether there are so many types and constants.
+fn has_so_many(sig: &Signature, types: usize, constants: usize) -> bool {
+    let mark = sig.mark();
+    mark.types == types && mark.constants == constants
+}
+
 /// Whether what was answered is a fault of that word, with that name.
-fn is_refused(outcome: Result<(), TypeFault>, word: &str, name: &str) -> bool {
+fn is_refused(outcome: &Result<(), TypeFault>, word: &str, name: &str) -> bool {
     match outcome {
         Ok(()) => false,
-        Err(fault) => is_fault(&fault, word, name),
+        Err(fault) => is_fault(fault, word, name),
     }
 }
+
+/// Whether a type of that name is refused as declared already.
+fn refuses_type(alloc: Global, sig: &mut Signature, text: &str) -> Result<bool, Fail> {
+    let outcome = sig.add_type(alloc, name(alloc, text)?, 1);
+    Ok(is_refused(&outcome, "Duplicate", text))
+}
+
+/// Whether a constant, in whose type `fun` has one argument, is refused with a word and a name.
+fn refuses_constant(
+    alloc: Global,
+    sig: &mut Signature,
+    text: &str,
+    word: &str,
+    told: &str,
+) -> Result<bool, Fail> {
+    let outcome = sig.add_const(alloc, name(alloc, text)?, ty(alloc, "AF")?);
+    Ok(is_refused(&outcome, word, told))
+}
+
+const ARITIES: [(&str, Option<usize>); 3] = [("bool", Some(0)), ("fun", Some(2)), ("nat", None)];
+
+const CONSTANTS: [(&str, &str); 4] = [
+    ("eq", "AAB>>"),
+    ("imp", "BBB>>"),
+    ("all", "AB>B>"),
+    ("eps", "AB>A>"),
+];
 
 #[test]
 fn the_built_in_types_and_constants_are_there(rt: HostRuntime) -> Result<(), Fail> {
     let alloc = rt.alloc();
     let sig = Signature::new(alloc)?;
-    for (text, arity) in [("bool", Some(0)), ("fun", Some(2)), ("nat", None)] {
-        assert!(rt; has_arity(alloc, &sig, text, arity)?, "{text}");
+    for (text, arity) in &ARITIES {
+        assert!(rt; has_arity(alloc, &sig, text, *arity)?, "{text}");
     }
-    for (text, wanted) in [
-        ("eq", "AAB>>"),
-        ("imp", "BBB>>"),
-        ("all", "AB>B>"),
-        ("eps", "AB>A>"),
-    ] {
+    for (text, wanted) in &CONSTANTS {
         assert!(rt; has_type(alloc, &sig, text, wanted)?, "{text}");
     }
-    assert!(rt;
-        sig.mark()
-            == SigMark {
-                types: 2,
-                constants: 4
-            }
-    );
+    assert!(rt; has_so_many(&sig, 2, 4));
     Ok(())
 }
 
@@ -67,21 +89,12 @@ fn a_name_is_declared_once(rt: HostRuntime) -> Result<(), Fail> {
     let alloc = rt.alloc();
     let mut sig = Signature::new(alloc)?;
     declare(alloc, &mut sig)?;
-    let again = sig.add_type(alloc, name(alloc, "nat")?, 1);
-    assert!(rt; is_refused(again, "Duplicate", "nat"));
+    assert!(rt; refuses_type(alloc, &mut sig, "nat")?);
     // the name before the type's fault
-    let again = sig.add_const(alloc, name(alloc, "zero")?, ty(alloc, "AF")?);
-    assert!(rt; is_refused(again, "Duplicate", "zero"));
-    let wrong = sig.add_const(alloc, name(alloc, "one")?, ty(alloc, "AF")?);
-    assert!(rt; is_refused(wrong, "Arity", "fun"));
+    assert!(rt; refuses_constant(alloc, &mut sig, "zero", "Duplicate", "zero")?);
+    assert!(rt; refuses_constant(alloc, &mut sig, "one", "Arity", "fun")?);
     assert!(rt; has_arity(alloc, &sig, "nat", Some(0))?);
-    assert!(rt;
-        sig.mark()
-            == SigMark {
-                types: 3,
-                constants: 5
-            }
-    );
+    assert!(rt; has_so_many(&sig, 3, 5));
     Ok(())
 }
 
@@ -94,16 +107,10 @@ fn declarations_are_taken_back(rt: HostRuntime) -> Result<(), Fail> {
     assert!(rt; has_type(alloc, &sig, "zero", "N")?);
     sig.back(mark);
     assert!(rt; has_arity(alloc, &sig, "nat", None)?);
-    assert!(rt; sig.const_type(&name(alloc, "zero")?).is_none());
+    assert!(rt; !has_type(alloc, &sig, "zero", "N")?);
     assert!(rt; has_type(alloc, &sig, "eps", "AB>A>")?);
-    assert!(rt; sig.mark() == mark);
+    assert!(rt; has_so_many(&sig, 2, 4));
     declare(alloc, &mut sig)?;
-    assert!(rt;
-        sig.mark()
-            == SigMark {
-                types: 3,
-                constants: 5
-            }
-    );
+    assert!(rt; has_so_many(&sig, 3, 5));
     Ok(())
 }

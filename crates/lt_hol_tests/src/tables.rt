@@ -121,19 +121,60 @@ fn is_wrong(outcome: &Outcome, word: &str, text: &str) -> bool {
     }
 }
 
+/// What is known of a thing of a type.
+fn of_type(
+    alloc: Global,
+    table: &mut TypeTable,
+    sig: &Signature,
+    text: &str,
+) -> Result<Outcome, Fail> {
+    Ok(sig.of_type(alloc, table, &ty(alloc, text)?)?)
+}
+
+/// What is known of `eps` at types.
+fn of_choice(
+    alloc: Global,
+    table: &mut TypeTable,
+    sig: &Signature,
+    text: &str,
+) -> Result<Outcome, Fail> {
+    Ok(sig.of_constant(alloc, table, &name(alloc, "eps")?, &types(alloc, text)?)?)
+}
+
+/// Whether a thing of a type is known to have that type.
+fn type_is_known(
+    alloc: Global,
+    table: &mut TypeTable,
+    sig: &Signature,
+    text: &str,
+) -> Result<bool, Fail> {
+    let found = of_type(alloc, table, sig, text)?;
+    known(alloc, table, &found, text)
+}
+
+/// Whether `eps` at types is known to have a type.
+fn choice_is_known(
+    alloc: Global,
+    table: &mut TypeTable,
+    sig: &Signature,
+    at: &str,
+    wanted: &str,
+) -> Result<bool, Fail> {
+    let found = of_choice(alloc, table, sig, at)?;
+    known(alloc, table, &found, wanted)
+}
+
 #[test]
 fn constants_and_types_are_known_or_wrong(rt: HostRuntime) -> Result<(), Fail> {
     let alloc = rt.alloc();
     let sig = Signature::new(alloc)?;
     let mut table = TypeTable::new(alloc)?;
-    let found = sig.of_type(alloc, &mut table, &ty(alloc, "AB>")?)?;
-    assert!(rt; known(alloc, &table, &found, "AB>")?);
-    let found = sig.of_type(alloc, &mut table, &ty(alloc, "N")?)?;
-    assert!(rt; is_wrong(&found, "UnknownType", "nat"));
-    let found = sig.of_constant(alloc, &mut table, &name(alloc, "eps")?, &types(alloc, "B")?)?;
-    assert!(rt; known(alloc, &table, &found, "BB>B>")?);
-    let found = sig.of_constant(alloc, &mut table, &name(alloc, "eps")?, &types(alloc, "")?)?;
-    assert!(rt; is_wrong(&found, "TypeArgs", "eps"));
+    assert!(rt; type_is_known(alloc, &mut table, &sig, "AB>")?);
+    assert!(rt; choice_is_known(alloc, &mut table, &sig, "B", "BB>B>")?);
+    let wrong = of_type(alloc, &mut table, &sig, "N")?;
+    assert!(rt; is_wrong(&wrong, "UnknownType", "nat"));
+    let wrong = of_choice(alloc, &mut table, &sig, "")?;
+    assert!(rt; is_wrong(&wrong, "TypeArgs", "eps"));
     Ok(())
 }
 

@@ -149,6 +149,12 @@ fn the_first_fault_of_a_term_is_told(rt: HostRuntime) -> Result<(), Fail> {
     Ok(())
 }
 
+const SOUND: [&str; 4] = ["A", "B", "AB>", "AB>C>"];
+
+fn is_sound(alloc: Global, sig: &Signature, text: &str) -> Result<bool, Fail> {
+    Ok(sig.check_type(alloc, &ty(alloc, text)?).is_ok())
+}
+
 #[test]
 fn the_first_fault_of_a_type_is_told(rt: HostRuntime) -> Result<(), Fail> {
     let alloc = rt.alloc();
@@ -156,8 +162,8 @@ fn the_first_fault_of_a_type_is_told(rt: HostRuntime) -> Result<(), Fail> {
     for fault in &TYPES {
         assert!(rt; type_has_fault(alloc, &sig, fault)?, "{}", fault.0);
     }
-    for text in ["A", "B", "AB>", "AB>C>"] {
-        assert!(rt; sig.check_type(alloc, &ty(alloc, text)?).is_ok(), "{text}");
+    for text in &SOUND {
+        assert!(rt; is_sound(alloc, &sig, text)?, "{text}");
     }
     Ok(())
 }
