@@ -1,4 +1,4 @@
-//! Tests of the calls of lt_terms and lt_hol, with values from outside.
+//! Tests of the calls of lt_types, lt_terms and lt_hol, with values from outside.
 #![tactic(auto)]
 
 #[cfg(test)]
@@ -19,5 +19,7 @@ mod signatures;
 mod tables;
 #[cfg(test)]
 mod texts;
+#[cfg(test)]
+mod types;
 #[cfg(test)]
 mod typing;

@@ -28,6 +28,3 @@ pub type Names = List<Name>;
 
 /// A list of types.
 pub type Tys = List<Ty>;
-
-#[cfg(test)]
-mod tests;
