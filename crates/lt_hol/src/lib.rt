@@ -14,8 +14,6 @@ mod read_type;
 mod reason;
 mod shared_nodes;
 mod signature;
-#[cfg(test)]
-mod tests;
 mod type_fault;
 mod type_table;
 mod type_variables;

@@ -1,0 +1,13 @@
+use Rattle.std.proofs.Common.{◌∙◌}
+use Rattle.lt_definitions.specs.Nameless.{nameless_constant}
+use Rattle.lt_types.proofs.Words.{all-word, all-chars}
+use Rattle.lt_formulas.proofs.constants.mk_all.Goals as goal
+
+pub word-requires : goal.word-requires
+word-requires g c = all-word
+
+pub returns-clause-is : goal.returns-clause-is
+returns-clause-is g c =
+    let name = c.in_ok-name.ensures ∙ all-chars in
+    let types = c.in_ok-types.ensures in
+    c.in_ok-made.ensures.ok.stands ∙ (λ i. nameless_constant (name i) (types i))

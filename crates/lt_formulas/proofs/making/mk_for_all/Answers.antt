@@ -1,7 +1,0 @@
-use Rattle.lt_store.proofs.Trees.{tree_at-extends}
-use Rattle.lt_formulas.proofs.making.mk_for_all.Goals as goal
-
-pub returns-clause-is : goal.returns-clause-is
-returns-clause-is g c =
-    let p = tree_at-extends _ _ c.args.p c.in_ok-all.ensures.kept c.requires in
-    cc (p, c.in_ok-all.ensures.is, c.in_ok-made.ensures.ok.stands)

@@ -1,7 +1,0 @@
-use Rattle.lt_store.proofs.Trees.{tree_at-extends}
-use Rattle.lt_formulas.proofs.making_more.mk_of_bound.Goals as goal
-
-pub returns-clause-is : goal.returns-clause-is
-returns-clause-is g c =
-    let p = tree_at-extends _ _ c.args.p c.in_ok-x.ensures.ok.extends c.requires in
-    cc (p, c.in_ok-x.ensures.ok.stands, c.in_ok-made.ensures.ok.stands)
