@@ -231,6 +231,56 @@ fn is_told(outcome: &Result<Ty, TypeFault>, kind: &str, text: &str) -> bool {
     }
 }
 
+/// Whether the type of a constant at simple types is told as of that kind, with that name.
+fn constant_is_told<S: TermStore>(
+    alloc: Global,
+    rt: &impl Abort,
+    store: &mut S,
+    sig: &Signature,
+    constant: &str,
+    types: &[&str],
+    kind: &str,
+    text: &str,
+) -> Result<bool, Memory> {
+    let types = simple_types(alloc, rt, types)?;
+    let outcome = type_of_constant(alloc, store, sig, name(alloc, rt, constant)?, types);
+    Ok(is_told(&outcome, kind, text))
+}
+
+/// The same of a variable of one simple type applied to a variable of another.
+fn application_is_told<S: TermStore>(
+    alloc: Global,
+    rt: &impl Abort,
+    store: &mut S,
+    sig: &Signature,
+    function: &str,
+    argument: &str,
+    kind: &str,
+    text: &str,
+) -> Result<bool, Memory> {
+    let f = simple(alloc, rt, function)?;
+    let a = simple(alloc, rt, argument)?;
+    let outcome = type_of_application(alloc, store, sig, name(alloc, rt, "x")?, f, a);
+    Ok(is_told(&outcome, kind, text))
+}
+
+/// The same of an abstraction over a binder of one simple type, whose body is a variable of another.
+fn abstraction_is_told<S: TermStore>(
+    alloc: Global,
+    rt: &impl Abort,
+    store: &mut S,
+    sig: &Signature,
+    binder: &str,
+    body: &str,
+    kind: &str,
+    text: &str,
+) -> Result<bool, Memory> {
+    let of = simple(alloc, rt, binder)?;
+    let ty = simple(alloc, rt, body)?;
+    let outcome = type_of_abstraction(alloc, store, sig, name(alloc, rt, "x")?, of, ty);
+    Ok(is_told(&outcome, kind, text))
+}
+
 #[test]
 fn faults_of_constants_are_told(rt: HostRuntime) -> Result<(), Fail> {
     let alloc = rt.alloc();
@@ -246,45 +296,49 @@ fn faults_of_constants_are_told(rt: HostRuntime) -> Result<(), Fail> {
         ("eq", &["fun"], "arity", "fun"),
     ];
     for (constant, types, kind, text) in cases {
-        let constant = name(alloc, &rt, constant)?;
-        let types = simple_types(alloc, &rt, types)?;
-        let outcome = type_of_constant(alloc, &mut store, &sig, constant, types);
-        assert!(rt; is_told(&outcome, kind, text), "{kind} {text}");
+        assert!(rt;
+            constant_is_told(alloc, &rt, &mut store, &sig, constant, types, kind, text)?,
+            "{kind} {text}"
+        );
     }
     Ok(())
 }
 
 #[test]
-fn the_first_fault_is_told(rt: HostRuntime) -> Result<(), Fail> {
+fn the_first_fault_of_an_application_is_told(rt: HostRuntime) -> Result<(), Fail> {
     let alloc = rt.alloc();
     let sig = Signature::new(alloc)?;
     let mut store = PlainStore::new(alloc);
-    for (first, second, applied, abstracted, text) in [
-        ("one", "two", "unknown type", "unknown type", "one"),
-        ("fun", "two", "arity", "arity", "fun"),
-        ("bool", "two", "unknown type", "unknown type", "two"),
-        ("bool", "fun", "arity", "arity", "fun"),
-        ("bool", "bool", "mismatch", "type", ""),
+    for (function, argument, kind, text) in [
+        ("one", "two", "unknown type", "one"),
+        ("fun", "two", "arity", "fun"),
+        ("bool", "two", "unknown type", "two"),
+        ("bool", "fun", "arity", "fun"),
+        ("bool", "bool", "mismatch", ""),
     ] {
-        let (x, from, to) = (
-            name(alloc, &rt, "x")?,
-            simple(alloc, &rt, first)?,
-            simple(alloc, &rt, second)?,
-        );
-        let outcome = type_of_application(alloc, &mut store, &sig, x, from, to);
         assert!(rt;
-            is_told(&outcome, applied, text),
-            "{first} applied to {second}"
+            application_is_told(alloc, &rt, &mut store, &sig, function, argument, kind, text)?,
+            "{function} {argument}"
         );
-        let (x, from, to) = (
-            name(alloc, &rt, "x")?,
-            simple(alloc, &rt, first)?,
-            simple(alloc, &rt, second)?,
-        );
-        let outcome = type_of_abstraction(alloc, &mut store, &sig, x, from, to);
+    }
+    Ok(())
+}
+
+#[test]
+fn the_first_fault_of_an_abstraction_is_told(rt: HostRuntime) -> Result<(), Fail> {
+    let alloc = rt.alloc();
+    let sig = Signature::new(alloc)?;
+    let mut store = PlainStore::new(alloc);
+    for (binder, body, kind, text) in [
+        ("one", "two", "unknown type", "one"),
+        ("fun", "two", "arity", "fun"),
+        ("bool", "two", "unknown type", "two"),
+        ("bool", "fun", "arity", "fun"),
+        ("bool", "bool", "type", ""),
+    ] {
         assert!(rt;
-            is_told(&outcome, abstracted, text),
-            "{first} over {second}"
+            abstraction_is_told(alloc, &rt, &mut store, &sig, binder, body, kind, text)?,
+            "{binder} {body}"
         );
     }
     Ok(())
