@@ -1,119 +1,118 @@
 //! Long terms, and terms whose trees are larger than any memory.
-ghost use Rattle.std.specs.Prelude.{◌≡◌, ◌<◌, [], length, codes, Ok as Fine, IfOk};
-ghost use Rattle.lt_definitions.specs.Types.{bool, fun};
-ghost use Rattle.lt_definitions.specs.Typing.{built_in};
-ghost use Rattle.lt_definitions.specs.Nameless.{nameless_constant};
-ghost use Rattle.lt_definitions.specs.NamelessRules.{nameless_typed};
-ghost use Rattle.lt_store.specs.Trees.{tree_at, Extends};
-
-use crate::lines::{declared, derive, same};
+use crate::lines::{declared, derive, derive_of, put, same};
 use crate::machine::name;
-use lt_hol::{List, Memory, Name, Signature, Ty};
-use lt_kernel::{Proof, RuleFault};
+use lt_hol::{List, Name, Term, TermBuilder, TryCopy, Ty};
+use lt_kernel::Proof;
 use lt_store::{Id, PlainStore, TermStore, View};
 use std::alloc::Global;
 use std::test::Fail;
 
-/// A variable of type `bool`.
-fn variable<S: TermStore>(alloc: Global, store: &mut S, text: &str) -> Result<Id, Fail>
-    ensures kept { Extends (S.nodes store.old) (S.nodes store.new) }
-    ensures made { IfOk result (λ x. x < length (S.nodes store.new)) }
-    ensures typed { IfOk result (λ x. nameless_typed built_in [] (tree_at (S.nodes store.new) x) ≡ Fine bool) }
-{
-    let name = name(alloc, text)?;
-    let ty = Ty::bool(alloc)?;
-    let made = store.mk_free(alloc, name, ty)?;
-    Ok(made)
+const LENGTH: usize = 100_000;
+
+/// The last two terms become function and argument.
+fn applied(alloc: Global, builder: TermBuilder) -> Result<TermBuilder, Fail> {
+    if builder.len() < 2 {
+        return Err("too few terms".into());
+    }
+    Ok(builder.app(alloc)?)
 }
 
-/// The constant `imp`.
-fn implication<S: TermStore>(alloc: Global, store: &mut S) -> Result<Id, Memory>
-    ensures kept { Extends (S.nodes store.old) (S.nodes store.new) }
-    ensures made { IfOk result (λ r. r < length (S.nodes store.new)) }
-    ensures is { IfOk result (λ r. tree_at (S.nodes store.new) r ≡ nameless_constant (codes "imp") []) }
-{
-    let name = Name::word(alloc, "imp")?;
-    let made = store.mk_const(alloc, name, List::new(alloc))?;
-    Ok(made)
+/// One more term, `imp x`.
+fn premise(
+    alloc: Global,
+    builder: TermBuilder,
+    imp: &Name,
+    x: &Name,
+    bool: &Ty,
+) -> Result<TermBuilder, Fail> {
+    let builder = builder.constant(alloc, imp.copy(alloc)?, List::new(alloc))?;
+    let builder = builder.free(alloc, x.copy(alloc)?, bool.copy(alloc)?)?;
+    applied(alloc, builder)
 }
 
-/// `imp p`
-fn premise<S: TermStore>(alloc: Global, store: &mut S, p: Id) -> Result<Id, Memory>
-    requires p { p < length (S.nodes store.old) }
-    requires typed { nameless_typed built_in [] (tree_at (S.nodes store.old) p) ≡ Fine bool }
-    ensures kept { Extends (S.nodes store.old) (S.nodes store.new) }
-    ensures made { IfOk result (λ r. r < length (S.nodes store.new)) }
-    ensures typed { IfOk result (λ r. nameless_typed built_in [] (tree_at (S.nodes store.new) r) ≡ Fine (fun bool bool)) }
-{
-    let imp = implication(alloc, store)?;
-    let made = store.mk_app(alloc, imp, p)?;
-    Ok(made)
+/// As many of `imp x` as the chain is long.
+fn premises(alloc: Global, x: &Name, bool: &Ty) -> Result<TermBuilder, Fail> {
+    let imp = name(alloc, "imp")?;
+    let mut builder = TermBuilder::new(alloc);
+    for _ in 0..LENGTH {
+        builder = premise(alloc, builder, &imp, x, bool)?;
+    }
+    Ok(builder)
+}
+
+/// The parts of the chain, not yet applied.
+fn parts(alloc: Global, text: &str) -> Result<TermBuilder, Fail> {
+    let x = name(alloc, text)?;
+    let bool = Ty::bool(alloc)?;
+    let builder = premises(alloc, &x, &bool)?;
+    Ok(builder.free(alloc, x, bool)?)
 }
 
 /// 100,000 nested implications of a variable.
-fn chain<S: TermStore>(alloc: Global, store: &mut S, text: &str) -> Result<Id, Fail>
-    ensures made { IfOk result (λ r. r < length (S.nodes store.new)) }
-    ensures typed { IfOk result (λ r. nameless_typed built_in [] (tree_at (S.nodes store.new) r) ≡ Fine bool) }
-{
-    let x = variable(alloc, store, text)?;
-    let half = premise(alloc, store, x)?;
-    let mut chain = x;
-    for _link in 0..100_000 {
-        let made = store.mk_app(alloc, half, chain)?;
-        chain = made;
+fn chain(alloc: Global, text: &str) -> Result<Term, Fail> {
+    let mut builder = parts(alloc, text)?;
+    for _ in 0..LENGTH {
+        builder = applied(alloc, builder)?;
     }
-    Ok(chain)
+    if builder.len() != 1 {
+        return Err("not one term".into());
+    }
+    Ok(builder.finish())
 }
 
-/// Lines 1 and 2, `p |- p` and `|- p --> p`.
+/// The lines `p |- p` and `|- p --> p`. The answer is the number of the second.
 fn discharge<S: TermStore + Drop>(
     alloc: Global,
     proof: &mut Proof<S>,
-    p: Id,
-) -> Result<(), RuleFault>
-    requires signature { proof.old.signature ≡ built_in }
-    requires p { p < length proof.old.nodes }
-    requires typed { nameless_typed built_in [] (tree_at proof.old.nodes p) ≡ Fine bool }
-{
-    let assumed = proof.assume(alloc, p)?;
-    proof.impI(alloc, p, assumed)?;
-    Ok(())
+    p: &Term,
+) -> Result<usize, Fail> {
+    let assumed = derive_of(alloc, proof, "assume", p, 0)??;
+    Ok(derive_of(alloc, proof, "impI", p, assumed)??)
 }
 
-/// What the conclusion of a line without hypotheses implies.
-fn implied<S: TermStore + Drop>(proof: &Proof<S>, number: usize) -> Result<Id, Fail> {
+/// The sides of a line's conclusion, which has no hypotheses.
+fn sides<S: TermStore + Drop>(proof: &Proof<S>, number: usize) -> Result<(Id, Id), Fail> {
     let sequent = proof.sequent(number).ok_or("no line")?;
     if sequent.hyps.len() != 0 {
         return Err("a hypothesis".into());
     }
-    match proof.view(sequent.concl) {
-        View::App(_, q) => Ok(q),
+    let View::App(half, q) = proof.view(sequent.concl) else {
+        return Err("no implication".into());
+    };
+    match proof.view(half) {
+        View::App(_, p) => Ok((p, q)),
         _ => Err("no implication".into()),
     }
+}
+
+/// Whether both sides of a line are a term.
+fn are_sides<S: TermStore + Drop>(
+    alloc: Global,
+    proof: &mut Proof<S>,
+    number: usize,
+    wanted: &Term,
+) -> Result<bool, Fail> {
+    let (p, q) = sides(proof, number)?;
+    let wanted = put(alloc, proof, wanted)?;
+    Ok(same(alloc, proof, p, wanted)? && same(alloc, proof, q, wanted)?)
 }
 
 #[test]
 fn a_long_chain_is_discharged_and_instantiated(rt: HostRuntime) -> Result<(), Fail> {
     let alloc = rt.alloc();
-    let mut store = PlainStore::new(alloc);
-    let wanted = chain(alloc, &mut store, "y")?;
-    let p = chain(alloc, &mut store, "x")?;
-    let mut proof = Proof::new(alloc, Signature::new(alloc)?, store);
-    discharge(alloc, &mut proof, p)?;
-    let is = is_renamed(alloc, &mut proof, wanted)?;
+    let mut proof = declared(alloc, PlainStore::new(alloc))?;
+    let is = is_renamed(alloc, &mut proof)?;
     assert!(rt; is);
     Ok(())
 }
 
-/// Whether line 2 with `y` in place of `x` implies the wanted term.
-fn is_renamed<S: TermStore + Drop>(
-    alloc: Global,
-    proof: &mut Proof<S>,
-    wanted: Id,
-) -> Result<bool, Fail> {
-    let number = derive(alloc, proof, ("inst", "x", "B By", 2, 0))??;
-    let q = implied(proof, number)?;
-    same(alloc, proof, q, wanted)
+/// Whether a chain of `x` that is discharged becomes one of `y` where `y` is put for `x`.
+fn is_renamed<S: TermStore + Drop>(alloc: Global, proof: &mut Proof<S>) -> Result<bool, Fail> {
+    let p = chain(alloc, "x")?;
+    let discharged = discharge(alloc, proof, &p)?;
+    let number = derive(alloc, proof, ("inst", "x", "B By", discharged, 0))??;
+    let wanted = chain(alloc, "y")?;
+    are_sides(alloc, proof, number, &wanted)
 }
 
 /// A variable is sixty times replaced by an implication of itself with itself, a line each.

@@ -93,7 +93,33 @@ pub fn derive<S: TermStore + Drop>(
     let (rule, text, words, i, j) = given;
     let x = name(alloc, text)?;
     let (ty, term) = parts(alloc, words)?;
-    let t = put(alloc, proof, &term)?;
+    derive_from(alloc, proof, rule, x, ty, &term, i, j)
+}
+
+/// What a line gives whose rule is given a term and perhaps an earlier line.
+pub fn derive_of<S: TermStore + Drop>(
+    alloc: Global,
+    proof: &mut Proof<S>,
+    rule: &str,
+    term: &Term,
+    i: usize,
+) -> Result<Result<usize, RuleFault>, Fail> {
+    let x = name(alloc, "x")?;
+    let ty = Ty::bool(alloc)?;
+    derive_from(alloc, proof, rule, x, ty, term, i, 0)
+}
+
+fn derive_from<S: TermStore + Drop>(
+    alloc: Global,
+    proof: &mut Proof<S>,
+    rule: &str,
+    x: Name,
+    ty: Ty,
+    term: &Term,
+    i: usize,
+    j: usize,
+) -> Result<Result<usize, RuleFault>, Fail> {
+    let t = put(alloc, proof, term)?;
     proof.signature().check_type(alloc, &ty)?;
     Ok(call(alloc, proof, rule, x, ty, t, i, j))
 }
