@@ -21,13 +21,9 @@ fn put<S: TermStore>(
     ensures within { IfOk result (λ r. r < length (S.nodes store.new)) }
     ensures whole { IfOk result (λ r. IsWhole 0 (tree_at (S.nodes store.new) r)) }
 {
-    match sig.type_of(alloc, t) {
-        Ok(_) => {
-            let id = to_store(alloc, store, t)?;
-            Ok(id)
-        }
-        Err(fault) => Err(fault),
-    }
+    let _ty = sig.type_of(alloc, t)?;
+    let id = to_store(alloc, store, t)?;
+    Ok(id)
 }
 
 /// A typed term, put into a store and taken out again.

@@ -2,8 +2,8 @@ use Rattle.std.proofs.Common.{arith}
 use Rattle.lt_store_tests.proofs.TestTerms.{whole_as, whole_on}
 use Rattle.lt_store_tests.proofs.terms.doubled.Goals as goal
 
-pub mk_app-whole-requires-clause-a : goal.mk_app-whole-requires-clause-a
-mk_app-whole-requires-clause-a g c = omega (arith, c.requires.t, c.in_ok-half.ensures.kept.grows)
+pub mk_app-requires-2-clause-a : goal.mk_app-requires-2-clause-a
+mk_app-requires-2-clause-a g c = omega (arith, c.requires.t, c.in_ok-half.ensures.kept.grows)
 
 pub returns-clause-whole : goal.returns-clause-whole
 returns-clause-whole g c =
