@@ -121,15 +121,43 @@ fn doubled<S: TermStore>(alloc: Global, store: &mut S, imp: Id, t: Id) -> Result
     Ok(whole)
 }
 
+/// The same, with a constant `imp` of its own.
+fn doubled_anew<S: TermStore>(
+    alloc: Global,
+    rt: &impl Abort,
+    store: &mut S,
+    t: Id,
+) -> Result<Id, Memory>
+    requires t { t < length (S.nodes store.old) }
+    requires whole { IsWhole 0 (tree_at (S.nodes store.old) t) }
+    ensures within { IfOk result (λ r. r < length (S.nodes store.new)) }
+    ensures whole { IfOk result (λ r. IsWhole 0 (tree_at (S.nodes store.new) r)) }
+{
+    let name = name(alloc, rt, "imp")?;
+    let imp = store.mk_const(alloc, name, List::new(alloc))?;
+    let made = doubled(alloc, store, imp, t)?;
+    Ok(made)
+}
+
+/// A boolean variable.
+fn leaf<S: TermStore>(alloc: Global, rt: &impl Abort, store: &mut S) -> Result<Id, Memory>
+    ensures within { IfOk result (λ r. r < length (S.nodes store.new)) }
+    ensures whole { IfOk result (λ r. IsWhole 0 (tree_at (S.nodes store.new) r)) }
+{
+    let name = name(alloc, rt, "p")?;
+    let ty = bool_type(alloc, rt)?;
+    let made = store.mk_free(alloc, name, ty)?;
+    Ok(made)
+}
+
 /// A boolean variable, sixty times replaced by an implication of itself with itself: as a tree it has 2^60 leaves.
 fn doubled_often<S: TermStore>(alloc: Global, rt: &impl Abort, store: &mut S) -> Result<Id, Memory>
     ensures within { IfOk result (λ r. r < length (S.nodes store.new)) }
     ensures whole { IfOk result (λ r. IsWhole 0 (tree_at (S.nodes store.new) r)) }
 {
-    let imp = store.mk_const(alloc, name(alloc, rt, "imp")?, List::new(alloc))?;
-    let mut t = store.mk_free(alloc, name(alloc, rt, "p")?, bool_type(alloc, rt)?)?;
+    let mut t = leaf(alloc, rt, store)?;
     for _ in 0..60 {
-        t = doubled(alloc, store, imp, t)?;
+        t = doubled_anew(alloc, rt, store, t)?;
     }
     Ok(t)
 }

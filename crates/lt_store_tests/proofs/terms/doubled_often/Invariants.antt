@@ -6,4 +6,4 @@ use Rattle.lt_store_tests.proofs.terms.doubled_often.Given as goal
 abbrev pub invariant-loop : goal.invariant-loop
 invariant-loop g l =
     let now = g.S.TermStore.nodes l.store in
-    record { imp : l.imp < length now; whole_imp : IsWhole 0 (tree_at now l.imp); t : l.t < length now; whole : IsWhole 0 (tree_at now l.t) }
+    record { t : l.t < length now; whole : IsWhole 0 (tree_at now l.t) }
