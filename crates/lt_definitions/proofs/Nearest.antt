@@ -1,15 +1,14 @@
 -- What is spelt as a token behind a gap is read, and a text of characters is all ahead.
-use Rattle.std.proofs.Common.{◌≡◌, ℕ, ◌∙◌, ap, sym, refl, true, false, List, [], ◌∷◌, ◌++◌, length, take, Option, Some, None}
+use Rattle.std.proofs.Common.{◌≡◌, ℕ, ◌∙◌, ap, refl, true, List, [], ◌∷◌, ◌++◌, take, Option}
 use Rattle.std.proofs.Math.Seq.{take-length}
 use Rattle.std.specs.Prelude.{IsUtf8, encode_utf8_all, chars}
 use Rattle.std.specs.Str.{all_scalars}
-use Rattle.std.specs.Str.Lossy.{utf8_valid_len}
 use Rattle.std.proofs.lemmas.Str.{chars-encodes, utf8_valid_len-IsUtf8}
 use Rattle.lt_definitions.specs.declared.lexical.TokenKind.{TokenKind}
 use Rattle.lt_definitions.specs.Tokens.{Scanned, token_at}
 use Rattle.lt_definitions.specs.Spelling.{is_spelt, stops}
 use Rattle.lt_definitions.specs.Gaps.{IsPast}
-use Rattle.lt_definitions.specs.Texts.{Left, left_of, past_gap, lexed, lexed_at, lexed_by, after, after_by, spelling, spelling_by}
+use Rattle.lt_definitions.specs.Texts.{Left, left_of, past_gap, lexed_at, lexed_by, after_by, spelling_by}
 use Rattle.lt_definitions.specs.Slices.{IsNext}
 use Rattle.lt_definitions.proofs.Longest.{spelt_found}
 use Rattle.lt_definitions.proofs.Shorter.{nothing_spelt}

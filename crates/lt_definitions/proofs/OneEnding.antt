@@ -1,10 +1,10 @@
 -- The walk through a text has one ending.
-use Rattle.std.proofs.Common.{◌≡◌, ℕ, ◌+◌, ◌<◌, ◌≤◌, List, [], ◌∷◌, ◌++◌, length, refl, sym, ap, ◌∙◌, subst, arith, Option, Some, None}
+use Rattle.std.proofs.Common.{◌≡◌, ℕ, ◌+◌, List, [], ◌∷◌, ◌++◌, length, refl, sym, ap, ◌∙◌, subst, arith, Option, Some, None}
 use Rattle.std.specs.Prelude.{IsSome}
 use Rattle.lt_definitions.specs.Items.{Item, Context, empty, with_item, context_of}
 use Rattle.lt_definitions.specs.Theory.{Refusal, refusal, AreValid, IsPlainTheory}
 use Rattle.lt_definitions.specs.PlainTexts.{HasItems}
-use Rattle.lt_definitions.specs.Walks.{Walk, plain_limit}
+use Rattle.lt_definitions.specs.Walks.{Walk}
 use Rattle.lt_definitions.specs.declared.walks.Ending.{Ending}
 use Rattle.lt_definitions.specs.declared.walks.Ending.TheVariants.{Accepted, TooLong, NotBuilt, AtItem}
 use Rattle.lt_definitions.proofs.OneReading.{one_reading}

@@ -1,13 +1,11 @@
 -- No two ways of writing have the same lexemes, and no text two lists of lexemes.
-use Rattle.std.proofs.Common.{◌≡◌, ℕ, List, [], ◌∷◌, refl, sym, ap, ◌∙◌, subst, codes, eqb, true, false, eq-eqb, Some}
-use Rattle.lt_definitions.specs.declared.lexical.TokenKind.{TokenKind}
-use Rattle.lt_definitions.specs.declared.lexical.TokenKind.TheVariants.{Open, Close, OpenBrace, CloseBrace, Semicolon, Colon}
+use Rattle.std.proofs.Common.{◌≡◌, ℕ, List, [], ◌∷◌, refl, sym, ap, ◌∙◌, subst, eqb, true, false, eq-eqb}
+use Rattle.lt_definitions.specs.declared.lexical.TokenKind.TheVariants.{Close, OpenBrace, CloseBrace, Semicolon}
 use Rattle.lt_definitions.specs.declared.lexical.Token.{Token as Placed}
-use Rattle.lt_definitions.specs.declared.lexical.Lexed.{Lexed}
 use Rattle.lt_definitions.specs.declared.lexical.Lexed.TheVariants.{Token, End}
 use Rattle.lt_definitions.specs.Items.{Item}
 use Rattle.lt_definitions.specs.Texts.{Left, left_of, lexed, after, spelling}
-use Rattle.lt_definitions.specs.Lexemes.{Lexeme, a_name, a_variable, a_number, a_sign, lexeme, IsNextLexeme, Spans, HasLexemes}
+use Rattle.lt_definitions.specs.Lexemes.{Lexeme, a_name, a_sign, lexeme, IsNextLexeme, Spans, HasLexemes}
 use Rattle.lt_definitions.specs.PlainTexts.{TypeText, alone, in_brackets, TypeTexts, no_more_types, more_types, type_lexemes, types_lexemes, TermText, word, applied, TermTexts, no_more_terms, more_terms, term_lexemes, terms_lexemes, LineText, assume_line, impI_line, mp_line, thm_line, number, line_lexemes, lines_lexemes, ItemText, type_text, const_text, axiom_text, lemma_text, item_lexemes, PartText, header, item, part_lexemes, parts_lexemes, items_of, IsPlainText, HasItems}
 
 -- ---- the lexemes of a text

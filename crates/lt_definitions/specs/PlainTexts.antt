@@ -1,7 +1,6 @@
 -- The grammar of plain texts: the ways to write each thing, the lexemes of each way, and what it stands for.
 -- Source: this project's own.
 use Rattle.std.specs.Prelude.{◌≡◌, ℕ, List, [], ◌∷◌, map, Some, codes}
-use Rattle.lt_definitions.specs.declared.lexical.TokenKind.{TokenKind}
 use Rattle.lt_definitions.specs.declared.lexical.TokenKind.TheVariants.{Open, Close, OpenBrace, CloseBrace, Semicolon, Colon}
 use Rattle.lt_definitions.specs.Types.{Chars, TypeTree, TypeTrees, type_constructor, no_types, type_and}
 use Rattle.lt_definitions.specs.Terms.{TermTree, constant, application}

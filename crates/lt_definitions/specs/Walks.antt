@@ -5,7 +5,7 @@ use Rattle.std.specs.Fmt.{decimal}
 use Rattle.lt_definitions.specs.declared.walks.Ending.{Ending}
 use Rattle.lt_definitions.specs.declared.walks.Ending.TheVariants.{Accepted, TooLong, NotBuilt, AtItem}
 use Rattle.lt_definitions.specs.Items.{Item, empty, context_of}
-use Rattle.lt_definitions.specs.Theory.{refusal, AreValid, IsPlainTheory}
+use Rattle.lt_definitions.specs.Theory.{refusal, IsPlainTheory}
 use Rattle.lt_definitions.specs.Printing.{summary_lines, count_line}
 use Rattle.lt_definitions.specs.PlainTexts.{HasItems}
 

@@ -1,12 +1,12 @@
 -- The first fault of a type, found from its last node to its first.
-use Rattle.std.proofs.Common.{◌≡◌, ℕ, zero, suc, ◌+◌, ◌-◌, ◌<◌, ◌≤◌, List, [], ◌∷◌, ◌++◌, length, take, drop, get_or, refl, sym, ◌∙◌, ap, subst, arith, Some, None, Option, true, false, is_some, append-nil, length-append}
+use Rattle.std.proofs.Common.{◌≡◌, ℕ, zero, suc, ◌+◌, ◌-◌, ◌<◌, ◌≤◌, List, [], ◌∷◌, ◌++◌, length, take, drop, get_or, refl, sym, ◌∙◌, ap, subst, arith, Some, None, Option, true, is_some, length-append}
 use Rattle.std.proofs.lemmas.List.{take-append-drop, length-take-le, take-append-le, length-drop}
-use Rattle.std.proofs.Math.Seq.{take-append_seam, take-length}
+use Rattle.std.proofs.Math.Seq.{take-length}
 use Rattle.lt_types.specs.declared.ty.TyNode.{TyNode}
 use Rattle.lt_types.specs.declared.ty.TyNode.TheVariants.{Var, Con}
 use Rattle.lt_types.specs.Layout.{grow, HasRoom, forest, type_nodes}
-use Rattle.lt_types.proofs.Nodes.{step, whole, IsStep}
-use Rattle.lt_definitions.specs.Types.{Chars, TypeTree, TypeTrees, type_variable, type_constructor, type_and, row, listed, found}
+use Rattle.lt_types.proofs.Nodes.{step}
+use Rattle.lt_definitions.specs.Types.{Chars, TypeTree, type_variable, type_constructor, row, listed, found}
 use Rattle.lt_definitions.proofs.Tests.{listed-row}
 use Rattle.lt_definitions.specs.Typing.{Signature, Fault, earlier, constructor_fault, type_fault, types_fault}
 use Rattle.lt_hol.specs.TypeNodes.{arguments, node_fault}

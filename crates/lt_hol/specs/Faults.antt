@@ -1,5 +1,5 @@
 -- What calls answer about types, terms and declarations. Want of memory may come at any growth.
-use Rattle.std.specs.Prelude.{◌≡◌, ℕ, List, [], ◌∷◌, ◌++◌, take, true, is_some, Option, Some, None, Result, Ok, Err}
+use Rattle.std.specs.Prelude.{◌≡◌, ℕ, [], ◌∷◌, ◌++◌, take, true, is_some, Option, Some, None, Result, Ok, Err}
 use Rattle.lt_definitions.specs.Types.{Chars, TypeTree, found}
 use Rattle.lt_definitions.specs.Typing.{Signature, type_fault, unknown_type, arity, unknown_const, type_args, unbound, mismatch}
 use Rattle.lt_definitions.specs.Typing as typing

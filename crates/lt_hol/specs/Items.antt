@@ -1,5 +1,4 @@
 -- Items with their types and terms as trees.
-use Rattle.std.specs.Prelude.{List}
 use Rattle.lt_definitions.specs.Theory as theory
 use Rattle.lt_hol.specs.Lines.{rules_of}
 use Rattle.lt_hol.specs.declared.item.Item.{Item}

@@ -1,5 +1,5 @@
 -- The reader's steps, over plain states.
-use Rattle.std.proofs.Common.{◌≡◌, ℕ, ◌+◌, ◌<◌, ◌≤◌, ◌∙◌, ap, sym, refl, subst, Bool, true, false, List, [], ◌∷◌, ◌++◌, length, reverse, Option, Some, None, Result, Ok, Err, arith, length-append}
+use Rattle.std.proofs.Common.{◌≡◌, ℕ, ◌+◌, ◌<◌, ◌≤◌, ◌∙◌, ap, sym, refl, subst, Bool, true, false, List, [], ◌∷◌, ◌++◌, length, reverse, Option, Some, None, Result, Ok, Err, arith}
 use Rattle.std.specs.Prelude.{IfOk, IfErr, MatchOption, MatchResult, IsNone, zero, suc, ◌==◌}
 use Rattle.lt_definitions.specs.declared.lexical.Token.{Token}
 use Rattle.lt_definitions.specs.declared.lexical.TokenKind.{TokenKind}
@@ -15,8 +15,8 @@ use Rattle.lt_reader.specs.declared.symbol.Symbol.TheVariants.{AType, Constructo
 use Rattle.lt_reader.specs.declared.symbol.Instruction.{Instruction}
 use Rattle.lt_reader.specs.declared.symbol.Instruction.TheVariants.{Act}
 use Rattle.lt_reader.specs.declared.unread.Unread.{Unread}
-use Rattle.lt_reader.specs.declared.unread.Unread.TheVariants.{Syntax, BadByte, BadChar, Memory}
-use Rattle.lt_reader.specs.Machine.{Move, under, step_on, State, state, onward, run, Takes}
+use Rattle.lt_reader.specs.declared.unread.Unread.TheVariants.{Syntax, BadByte, BadChar}
+use Rattle.lt_reader.specs.Machine.{Move, under, step_on, state, onward, run, Takes}
 use Rattle.lt_reader.specs.Reading.{IsWaiting, Reads, Stops, StopsAt, IsStopped}
 use Rattle.lt_reader.proofs.Places.{run-behind}
 

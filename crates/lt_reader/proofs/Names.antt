@@ -1,6 +1,6 @@
 -- Names and words, as characters and as bytes.
 use Rattle.std.proofs.Common.{◌≡◌, ◌∙◌, ap, sym, refl, Bool, true, false, List, ℕ, [], ◌∷◌, arith}
-use Rattle.std.specs.Prelude.{◌&&◌, chars, encode_utf8_all, slice_index, zero, suc, IsUtf8, bytes_eq, nat_lt}
+use Rattle.std.specs.Prelude.{◌&&◌, chars, encode_utf8_all, zero, suc, IsUtf8, bytes_eq, nat_lt}
 use Rattle.std.specs.List.{list_all}
 use Rattle.std.specs.Str.{IsAscii}
 use Rattle.std.proofs.lemmas.Bool.{and_parts}

@@ -1,5 +1,5 @@
 -- Parts of a text, one behind another.
-use Rattle.std.proofs.Common.{◌≡◌, ℕ, ◌+◌, ◌<◌, ◌≤◌, ◌∙◌, ap, sym, refl, subst, Bool, true, false, List, [], ◌∷◌, ◌++◌, length, reverse, Option, Some, None, arith, append_assoc, append-nil}
+use Rattle.std.proofs.Common.{◌≡◌, ℕ, ◌+◌, ◌<◌, ◌≤◌, ◌∙◌, ap, sym, refl, subst, true, false, List, [], ◌∷◌, ◌++◌, length, reverse, Option, Some, None, arith, append_assoc}
 use Rattle.std.proofs.lemmas.List.{reverse-reverse, length-reverse}
 use Rattle.lt_definitions.specs.declared.lexical.Lexed.{Lexed}
 use Rattle.lt_definitions.specs.declared.lexical.Lexed.TheVariants.{Token as One, End, BadByte as NoText, BadChar as NoToken}
@@ -16,9 +16,9 @@ use Rattle.lt_reader.specs.declared.unread.Unread.{Unread}
 use Rattle.lt_reader.specs.declared.unread.Unread.TheVariants.{Syntax, BadByte, BadChar, Memory}
 use Rattle.lt_reader.specs.Machine.{State, state, run}
 use Rattle.lt_reader.specs.Notes.{type_made, types_made, term_made, terms_made, kept_term, line_made, lines_made, item_made, part_made, is_header}
-use Rattle.lt_reader.specs.Reading.{IsWhole, IsRest, IsViable, IsWrong, FailsAt, Fails, AreHeaders, NextText, NextNotes, AtEnd, Reads, IsStopped}
-use Rattle.lt_reader.proofs.Taken.{takes-part, takes-header}
-use Rattle.lt_reader.proofs.Sound.{Language, sound, finish, finished, accepts}
+use Rattle.lt_reader.specs.Reading.{IsWhole, IsRest, IsViable, IsWrong, FailsAt, Fails, AreHeaders, NextNotes, AtEnd, Reads, IsStopped}
+use Rattle.lt_reader.proofs.Taken.{takes-part}
+use Rattle.lt_reader.proofs.Sound.{Language, sound, finished}
 use Rattle.lt_reader.proofs.Places.{part-split, fails, whole_led, rest_led}
 use Rattle.lt_reader.proofs.Comes.{spans_source}
 

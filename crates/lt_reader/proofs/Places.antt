@@ -1,11 +1,10 @@
 -- The first place where the machine stops is the first where no text goes on.
 use Rattle.std.proofs.Common.{◌≡◌, ℕ, ◌<◌, ◌∙◌, ap, ap₂, sym, refl, subst, List, [], ◌∷◌, ◌++◌, length, Option, Some, None, append_assoc, append-nil, inl, inr, ◌⊎◌, arith, codes}
 use Rattle.lt_definitions.specs.declared.lexical.TokenKind.TheVariants as kinds
-use Rattle.lt_definitions.specs.declared.lexical.Token.{Token}
 use Rattle.lt_definitions.specs.declared.lexical.Lexed.{Lexed}
 use Rattle.lt_definitions.specs.declared.lexical.Lexed.TheVariants.{Token as One, End, BadByte as NoText, BadChar as NoToken}
-use Rattle.lt_definitions.specs.Texts.{Left, lexed, after, spelling}
-use Rattle.lt_definitions.specs.Lexemes.{Lexeme, a_name, a_number, a_sign, lexeme, Spans}
+use Rattle.lt_definitions.specs.Texts.{Left, lexed, spelling}
+use Rattle.lt_definitions.specs.Lexemes.{Lexeme, a_name, a_sign, lexeme}
 use Rattle.lt_definitions.specs.PlainTexts.{TypeText, alone, in_brackets, TypeTexts, no_more_types, more_types, type_lexemes, types_lexemes, TermText, word, applied, TermTexts, no_more_terms, more_terms, term_lexemes, terms_lexemes, LineText, assume_line, impI_line, mp_line, thm_line, number, line_lexemes, lines_lexemes, ItemText, type_text, const_text, axiom_text, lemma_text, item_lexemes, PartText, header, item, part_lexemes, parts_lexemes}
 use Rattle.lt_reader.specs.declared.symbol.Symbol.{Symbol}
 use Rattle.lt_reader.specs.declared.symbol.Symbol.TheVariants.{AType, Constructor, MoreTypes, ATerm, MoreTerms, AName, ANumber, One as TheOne, Semicolon, Colon, OpenBrace, Lines, Do, APart, AHeader}
@@ -15,12 +14,11 @@ use Rattle.lt_reader.specs.declared.symbol.Instruction.{Instruction}
 use Rattle.lt_reader.specs.declared.symbol.Instruction.TheVariants.{Alone, Open, Close, Constant, Apply, Label, Count, Act, Begin}
 use Rattle.lt_reader.specs.declared.unread.Unread.{Unread}
 use Rattle.lt_reader.specs.declared.unread.Unread.TheVariants.{Syntax, BadByte, BadChar, Memory}
-use Rattle.lt_reader.specs.Machine.{Move, under, step_on, State, state, onward, run}
+use Rattle.lt_reader.specs.Machine.{Move, step_on, State, state, onward, run}
 use Rattle.lt_reader.specs.Reading.{IsWhole, IsRest, IsViable, IsWrong, FailsAt, Fails, IsWaiting, Stops, StopsAt, IsStopped}
 use Rattle.lt_reader.specs.Notes.{part_made}
 use Rattle.lt_reader.proofs.Taken.{takes-part, takes-header, done}
-use Rattle.lt_reader.proofs.Sound.{Language, sound, finish, finished, accepts}
-use Rattle.lt_definitions.proofs.OneReading.{one_part}
+use Rattle.lt_reader.proofs.Sound.{Language, sound, finished, accepts}
 
 -- ---- the machine over two lists of lexemes
 

@@ -1,22 +1,22 @@
 -- What the machine takes to the end is written by the grammar, and what is expected can be met.
-use Rattle.std.proofs.Common.{◌≡◌, ℕ, ◌∙◌, ap, ap₂, sym, refl, subst, Bool, true, false, List, [], ◌∷◌, ◌++◌, Option, Some, None, arith, append_assoc, append-nil, codes}
-use Rattle.std.specs.Prelude.{◌==◌, if◌then◌else◌, bytes_eq}
+use Rattle.std.proofs.Common.{◌≡◌, ℕ, ◌∙◌, ap, ap₂, sym, refl, subst, Bool, true, false, List, [], ◌∷◌, ◌++◌, Option, Some, None, append_assoc, append-nil}
+use Rattle.std.specs.Prelude.{◌==◌, if◌then◌else◌}
 use Rattle.std.proofs.lemmas.Bool.{eqb-true}
 use Rattle.lt_definitions.specs.declared.lexical.TokenKind.TheVariants as kinds
 use Rattle.lt_definitions.specs.Types.{Chars}
-use Rattle.lt_definitions.specs.Lexemes.{Lexeme, a_name, a_variable, a_number, a_sign}
-use Rattle.lt_definitions.specs.PlainTexts.{TypeText, alone, in_brackets, TypeTexts, no_more_types, more_types, type_lexemes, types_lexemes, TermText, word, applied, TermTexts, no_more_terms, more_terms, term_lexemes, terms_lexemes, LineText, assume_line, impI_line, mp_line, thm_line, number, line_lexemes, lines_lexemes, ItemText, type_text, const_text, axiom_text, lemma_text, item_lexemes, PartText, header, item, part_lexemes}
+use Rattle.lt_definitions.specs.Lexemes.{Lexeme, a_name, a_number, a_sign}
+use Rattle.lt_definitions.specs.PlainTexts.{TypeText, alone, in_brackets, TypeTexts, no_more_types, more_types, type_lexemes, types_lexemes, TermText, word, applied, TermTexts, no_more_terms, more_terms, term_lexemes, terms_lexemes, LineText, assume_line, impI_line, mp_line, thm_line, number, lines_lexemes, type_text, const_text, axiom_text, lemma_text, PartText, header, item, part_lexemes}
 use Rattle.lt_reader.specs.declared.symbol.Command.{Command}
 use Rattle.lt_reader.specs.declared.symbol.Command.TheVariants.{Header, TypeItem, ConstItem, AxiomItem, LemmaItem}
 use Rattle.lt_reader.specs.declared.symbol.Rule.{Rule}
 use Rattle.lt_reader.specs.declared.symbol.Rule.TheVariants.{Assume, ImpI, Mp, Thm}
 use Rattle.lt_reader.specs.declared.symbol.Action.{Action}
 use Rattle.lt_reader.specs.declared.symbol.Instruction.{Instruction}
-use Rattle.lt_reader.specs.declared.symbol.Instruction.TheVariants.{Alone, Open, Close, Constant, Apply, Label, Count, Act, Begin}
+use Rattle.lt_reader.specs.declared.symbol.Instruction.TheVariants.{Open, Close, Act}
 use Rattle.lt_reader.specs.declared.symbol.Symbol.{Symbol}
 use Rattle.lt_reader.specs.declared.symbol.Symbol.TheVariants.{AType, Constructor, MoreTypes, ATerm, MoreTerms, AName, ANumber, One, Semicolon, Colon, OpenBrace, Lines, Do, APart, AHeader}
 use Rattle.lt_reader.specs.Table.{command_of, row, rule_of, rule_row}
-use Rattle.lt_reader.specs.Machine.{Move, go, under, step_type, step_constructor, step_more_types, step_term, step_more_terms, step_name, step_number, step_one, step_semicolon, step_colon, step_open_brace, line_move, step_lines, part_move, step_part, header_move, step_header, step, step_on, State, state, onward, run}
+use Rattle.lt_reader.specs.Machine.{Move, go, under, step_type, step_constructor, step_more_types, step_term, step_more_terms, step_name, step_number, step_one, step_semicolon, step_colon, step_open_brace, line_move, step_lines, part_move, step_part, header_move, step_header, step, step_on, State, onward, run}
 use Rattle.lt_reader.proofs.Words.{is-command-word, is-rule-word}
 
 -- a writing of a symbol, and the rest

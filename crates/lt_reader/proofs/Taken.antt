@@ -1,18 +1,18 @@
 -- The machine takes each writing whole.
-use Rattle.std.proofs.Common.{◌≡◌, ℕ, ◌∙◌, ap, ap₂, sym, refl, List, [], ◌∷◌, ◌++◌, Option, Some, None, append_assoc, append-nil, codes}
+use Rattle.std.proofs.Common.{◌≡◌, ◌∙◌, ap₂, refl, List, [], ◌∷◌, ◌++◌, Option, Some, None, append_assoc, append-nil, codes}
 use Rattle.lt_definitions.specs.declared.lexical.TokenKind.TheVariants as kinds
-use Rattle.lt_definitions.specs.Lexemes.{Lexeme, a_name, a_variable, a_number, a_sign}
-use Rattle.lt_definitions.specs.PlainTexts.{TypeText, alone, in_brackets, TypeTexts, no_more_types, more_types, type_lexemes, types_lexemes, TermText, word, applied, TermTexts, no_more_terms, more_terms, term_lexemes, terms_lexemes, LineText, assume_line, impI_line, mp_line, thm_line, number, line_lexemes, lines_lexemes, ItemText, type_text, const_text, axiom_text, lemma_text, item_lexemes, PartText, header, item, part_lexemes}
-use Rattle.lt_reader.specs.declared.symbol.Command.TheVariants.{Header, TypeItem, ConstItem, AxiomItem, LemmaItem}
+use Rattle.lt_definitions.specs.Lexemes.{Lexeme, a_name, a_sign}
+use Rattle.lt_definitions.specs.PlainTexts.{TypeText, alone, in_brackets, TypeTexts, no_more_types, more_types, type_lexemes, types_lexemes, TermText, word, applied, TermTexts, no_more_terms, more_terms, term_lexemes, terms_lexemes, LineText, assume_line, impI_line, mp_line, thm_line, number, lines_lexemes, ItemText, type_text, const_text, axiom_text, lemma_text, item_lexemes, PartText, header, item, part_lexemes}
+use Rattle.lt_reader.specs.declared.symbol.Command.TheVariants.{Header, ConstItem, AxiomItem, LemmaItem}
 use Rattle.lt_reader.specs.declared.symbol.Rule.TheVariants.{Assume, ImpI, Mp, Thm}
 use Rattle.lt_reader.specs.declared.symbol.Action.{Action}
 use Rattle.lt_reader.specs.declared.symbol.Action.TheVariants.{KeepType, KeepTerm, MakeLine}
 use Rattle.lt_reader.specs.declared.symbol.Instruction.{Instruction}
-use Rattle.lt_reader.specs.declared.symbol.Instruction.TheVariants.{Alone, Open, Close, Constant, Apply, Label, Count, Act, Begin}
+use Rattle.lt_reader.specs.declared.symbol.Instruction.TheVariants.{Open, Close, Apply, Label, Count, Act, Begin}
 use Rattle.lt_reader.specs.declared.symbol.Symbol.{Symbol}
-use Rattle.lt_reader.specs.declared.symbol.Symbol.TheVariants.{AType, Constructor, MoreTypes, ATerm, MoreTerms, AName, ANumber, One, Semicolon, Colon, OpenBrace, Lines, Do, APart, AHeader}
+use Rattle.lt_reader.specs.declared.symbol.Symbol.TheVariants.{AType, MoreTypes, ATerm, MoreTerms, ANumber, Semicolon, OpenBrace, Lines, Do, APart, AHeader}
 use Rattle.lt_reader.specs.Notes.{type_made, types_made, term_made, terms_made, kept_term, line_made, lines_made, item_made, part_made}
-use Rattle.lt_reader.specs.Machine.{Move, go, under, step, step_on, State, state, onward, run}
+use Rattle.lt_reader.specs.Machine.{Move, under, step_on, onward, run}
 
 -- ---- types
 

@@ -1,5 +1,5 @@
 -- The table of commands: the word of each, and what is expected behind it.
-use Rattle.std.specs.Prelude.{ℕ, List, [], ◌∷◌, Option, Some, None, if◌then◌else◌, codes, bytes_eq}
+use Rattle.std.specs.Prelude.{List, [], ◌∷◌, Option, Some, None, if◌then◌else◌, codes, bytes_eq}
 use Rattle.lt_definitions.specs.Types.{Chars}
 use Rattle.lt_reader.specs.declared.symbol.Command.{Command}
 use Rattle.lt_reader.specs.declared.symbol.Command.TheVariants.{Header, TypeItem, ConstItem, AxiomItem, LemmaItem}

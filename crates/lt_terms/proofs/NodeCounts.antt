@@ -1,12 +1,12 @@
 -- Counts that stop at a bound.
-use Rattle.std.proofs.Common.{◌≡◌, ℕ, zero, suc, ◌+◌, ◌<◌, ◌≤◌, List, [], ◌∷◌, ◌++◌, length, drop, get_or, min, refl, sym, ◌∙◌, ap, subst, arith, append_assoc, append-nil}
+use Rattle.std.proofs.Common.{◌≡◌, ℕ, zero, suc, ◌+◌, ◌<◌, ◌≤◌, List, [], ◌∷◌, ◌++◌, length, drop, get_or, min, refl, sym, ◌∙◌, ap, arith, append_assoc, append-nil}
 use Rattle.std.proofs.Math.Seq.{drop-cons}
-use Rattle.lt_types.specs.Layout.{below, sizes, type_size}
+use Rattle.lt_types.specs.Layout.{sizes, type_size}
 use Rattle.lt_definitions.specs.Types.{TypeTree, TypeTrees, type_variable, type_constructor, no_types, type_and, row, type_nodes, types_nodes}
 use Rattle.lt_definitions.specs.Terms.{TermTree, free_variable, bound_name, constant, application, abstraction}
 use Rattle.lt_definitions.specs.Terms as terms
 use Rattle.lt_terms.specs.declared.term.TermNode.{TermNode}
-use Rattle.lt_terms.specs.declared.term.TermNode.TheVariants.{Free, Bound, Const, App, Lam}
+use Rattle.lt_terms.specs.declared.term.TermNode.TheVariants.{App, Lam}
 use Rattle.lt_terms.specs.Layout.{under, term_nodes}
 use Rattle.lt_terms.specs.Counts.{node_count}
 

@@ -1,11 +1,11 @@
 -- Terms that lie one after another.
-use Rattle.std.proofs.Common.{◌≡◌, ℕ, zero, suc, ◌+◌, ◌-◌, ◌<◌, ◌≤◌, List, [], ◌∷◌, ◌++◌, length, take, get_or, refl, sym, ◌∙◌, ap, subst, arith, append_assoc, append-nil, length-append}
+use Rattle.std.proofs.Common.{◌≡◌, ℕ, ◌+◌, ◌-◌, ◌≤◌, List, [], ◌∷◌, ◌++◌, length, take, get_or, refl, sym, ◌∙◌, ap, subst, arith, append_assoc, append-nil, length-append}
 use Rattle.std.proofs.Math.Seq.{take-append_seam, get_or-append_seam}
 use Rattle.lt_terms.specs.declared.term.TermNode.{TermNode}
 use Rattle.lt_terms.specs.declared.term.TermNode.TheVariants.{Free, Bound, Const, App, Lam}
 use Rattle.lt_definitions.specs.Types.{Chars, TypeTree}
 use Rattle.lt_definitions.specs.Terms.{TermTree, free_variable, bound_name, constant, application, abstraction}
-use Rattle.lt_terms.specs.Layout.{under, term_size, term_nodes, grow, applied, abstracted, IsLeaf, forest, sizes, stacked, roots, IsStack}
+use Rattle.lt_terms.specs.Layout.{under, term_nodes, grow, applied, abstracted, IsLeaf, forest, sizes, stacked, roots, IsStack}
 use Rattle.lt_terms.proofs.TermNodes.{length-term_nodes, forest-term_nodes}
 
 pub length-stacked : (ts : List TermTree) → length (stacked ts) ≡ sizes ts

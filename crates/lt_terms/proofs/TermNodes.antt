@@ -5,7 +5,7 @@ use Rattle.std.proofs.Math.Seq.{take-length}
 use Rattle.lt_terms.specs.declared.term.TermNode.{TermNode}
 use Rattle.lt_terms.specs.declared.term.TermNode.TheVariants.{Free, Bound, Const, App, Lam}
 use Rattle.lt_definitions.specs.Terms.{TermTree, free_variable, bound_name, constant, application, abstraction}
-use Rattle.lt_terms.specs.Layout.{under, term_size, term_nodes, grow, HasRoom, IsLeaf, forest, first, term_of_nodes}
+use Rattle.lt_terms.specs.Layout.{under, term_size, term_nodes, grow, HasRoom, forest, first, term_of_nodes}
 
 pub length-term_nodes : (from : ℕ) (t : TermTree) → length (term_nodes from t) ≡ term_size t
 length-term_nodes from (free_variable x t) = omega arith

@@ -2,7 +2,7 @@
 use Rattle.std.specs.Prelude.{Bool, false, ◌&&◌}
 use Rattle.lt_definitions.specs.Types.{Chars, same_name, TypeTree, same_type}
 use Rattle.lt_terms.specs.declared.term.TermNode.{TermNode}
-use Rattle.lt_terms.specs.declared.term.TermNode.TheVariants.{Free, Bound, Const, App, Lam}
+use Rattle.lt_terms.specs.declared.term.TermNode.TheVariants.{Free}
 
 -- whether a node is the free variable of that name and type
 abbrev pub is_free : Chars → TypeTree → TermNode → Bool

@@ -3,16 +3,16 @@ use Rattle.std.proofs.Common.{◌≡◌, ◌⊎◌, inl, inr, ℕ, zero, suc, �
 use Rattle.std.specs.Option.{option_copied}
 use Rattle.std.proofs.Math.Seq.{drop-cons}
 use Rattle.std.proofs.lemmas.Bool.{cases_lt}
-use Rattle.std.proofs.lemmas.List.{take-append-drop, length-map, map-append, length-take-le, length-drop, get_or_default}
+use Rattle.std.proofs.lemmas.List.{take-append-drop, length-map, map-append, length-take-le, get_or_default}
 use Rattle.lt_types.specs.declared.ty.TyNode.{TyNode}
 use Rattle.lt_types.specs.declared.ty.TyNode.TheVariants.{Var, Con}
-use Rattle.lt_definitions.specs.Types.{Chars, same_name, has_name, names_joined, TypeTree, TypeTrees, TypeMap, type_variable, type_constructor, no_types, type_and, row, listed, found, type_names, types_names, type_variables, type_instance, types_instance, Matches}
-use Rattle.lt_definitions.proofs.Tests.{bool_cases, true-false, name-true, true-name, listed-row}
-use Rattle.lt_types.specs.Layout.{grow, HasRoom, forest, type_nodes, type_size}
+use Rattle.lt_definitions.specs.Types.{Chars, same_name, has_name, names_joined, TypeTree, TypeTrees, TypeMap, type_variable, type_constructor, no_types, type_and, row, listed, found, type_names, types_names, type_variables, type_instance, types_instance}
+use Rattle.lt_definitions.proofs.Tests.{true-false, name-true, true-name, listed-row}
+use Rattle.lt_types.specs.Layout.{grow, HasRoom, forest, type_nodes}
 use Rattle.lt_types.specs.Maps.{with_pair}
 use Rattle.lt_types.specs.Matching.{firsts_behind, AreOccurrences, BeginsAt, arguments}
 use Rattle.lt_types.proofs.Substitutions.{row-map}
-use Rattle.lt_types.proofs.Nodes.{step, whole, IsStep}
+use Rattle.lt_types.proofs.Nodes.{step, IsStep}
 
 -- a pair for a new name is set at the end
 pub with_pair-new : (x : Chars) (t : TypeTree) (es : TypeMap) → is_some (found x es) ≡ false → with_pair x t es ≡ es ++ (x, t) ∷ []

@@ -1,13 +1,12 @@
 -- What is read of nodes that are laid out.
 use Rattle.std.proofs.Common.{◌≡◌, ℕ, zero, suc, ◌+◌, ◌-◌, ◌<◌, ◌≤◌, List, [], ◌∷◌, ◌++◌, length, take, drop, get_or, refl, sym, ◌∙◌, ap, subst, arith, append_assoc, append-nil, length-append}
 use Rattle.std.proofs.Math.Seq.{take-append_seam, drop-append_seam}
-use Rattle.std.proofs.lemmas.List.{take_more, take-append-le, drop-append-le}
+use Rattle.std.proofs.lemmas.List.{take_more}
 use Rattle.std.proofs.Math.Seq.{take-length, take-append-add, drop-append-add}
 use Rattle.lt_types.specs.declared.ty.TyNode.{TyNode}
 use Rattle.lt_types.specs.declared.ty.TyNode.TheVariants.{Var, Con}
 use Rattle.lt_definitions.specs.Types.{TypeTree, TypeTrees, Chars, type_variable, type_constructor, no_types, type_and, row, listed}
-use Rattle.lt_definitions.proofs.Tests.{listed-row}
-use Rattle.lt_types.specs.Layout.{below, sizes, type_size, roots, type_nodes, row_nodes, grow, HasRoom, forest, first, type_of_nodes}
+use Rattle.lt_types.specs.Layout.{sizes, type_size, roots, type_nodes, row_nodes, grow, HasRoom, forest, first, type_of_nodes}
 
 pub row-listed : (ts : TypeTrees) → row (listed ts) ≡ ts
 row-listed no_types = refl

@@ -1,12 +1,12 @@
 -- Types that lie one after another.
-use Rattle.std.proofs.Common.{◌≡◌, ℕ, zero, suc, ◌+◌, ◌-◌, ◌<◌, ◌≤◌, List, [], ◌∷◌, ◌++◌, length, take, drop, get_or, refl, sym, ◌∙◌, ap, subst, arith, append_assoc, append-nil, length-append, add_assoc}
+use Rattle.std.proofs.Common.{◌≡◌, ℕ, ◌+◌, ◌-◌, ◌≤◌, List, [], ◌∷◌, ◌++◌, length, take, drop, sym, ◌∙◌, ap, subst, arith, append_assoc, append-nil}
 use Rattle.std.proofs.lemmas.List.{take-append-drop, length-take-le}
 use Rattle.std.proofs.Math.Seq.{take-append_seam, drop-append_seam}
 use Rattle.lt_types.specs.declared.ty.TyNode.{TyNode}
 use Rattle.lt_types.specs.declared.ty.TyNode.TheVariants.{Var, Con}
-use Rattle.lt_definitions.specs.Types.{TypeTree, TypeTrees, Chars, type_variable, type_constructor, no_types, type_and, row, listed}
+use Rattle.lt_definitions.specs.Types.{TypeTree, Chars, type_variable, type_constructor, row}
 use Rattle.lt_definitions.proofs.Tests.{listed-row}
-use Rattle.lt_types.specs.Layout.{below, sizes, type_size, roots, type_nodes, row_nodes, grow, forest, first, type_of_nodes, IsRow}
+use Rattle.lt_types.specs.Layout.{below, sizes, type_size, roots, type_nodes, row_nodes, forest, IsRow}
 use Rattle.lt_types.proofs.Nodes.{length-roots, length-row_nodes, forest-row_nodes}
 
 sizes-append : (f g : List TypeTree) → sizes (row (f ++ g)) ≡ sizes (row f) + sizes (row g)

@@ -1,12 +1,12 @@
 -- Substitution over the types of a list, and looking a name up.
-use Rattle.std.proofs.Common.{◌≡◌, ℕ, List, [], ◌∷◌, length, take, drop, map, refl, ap, if◌then◌else◌, nat_eq, Some}
+use Rattle.std.proofs.Common.{◌≡◌, ℕ, List, [], ◌∷◌, map, refl, ap, if◌then◌else◌, nat_eq, Some}
 use Rattle.std.specs.Cmp.Lexicographic.{pointwise}
 use Rattle.std.specs.Map.{lookup}
 use Rattle.std.proofs.lemmas.List.{length-map, take-map, drop-map, map-append}
 use Rattle.indexmap.specs.IndexMap.{insert_entry}
 use Rattle.lt_types.specs.declared.ty.TyNode.{TyNode}
 use Rattle.lt_types.specs.declared.ty.TyNode.TheVariants.{Var, Con}
-use Rattle.lt_definitions.specs.Types.{TypeTree, TypeMap, Chars, same_name, type_variable, type_constructor, type_and, row, type_instance, types_instance, found}
+use Rattle.lt_definitions.specs.Types.{TypeTree, TypeMap, Chars, same_name, type_and, row, type_instance, types_instance, found}
 use Rattle.lt_types.specs.Layout.{grow, HasRoom}
 use Rattle.lt_types.specs.Maps.{with_pair}
 

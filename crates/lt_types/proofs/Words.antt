@@ -1,5 +1,5 @@
 -- Words that are names.
-use Rattle.std.proofs.Common.{◌≡◌, ◌∙◌, List, ℕ, zero, suc, [], ◌∷◌, true, false, ◌&&◌, replicate, refl, ap}
+use Rattle.std.proofs.Common.{◌≡◌, ◌∙◌, ℕ, zero, suc, [], ◌∷◌, true, false, ◌&&◌, replicate, refl, ap}
 use Rattle.std.specs.Str.{chars}
 use Rattle.std.proofs.lemmas.Str.{chars-encodes}
 use Rattle.unicode_ident.specs.Ident.{is_xid_start, is_xid_continue}

@@ -1,5 +1,5 @@
 -- How trees of types are stored as values that contracts see.
-use Rattle.std.specs.Prelude.{◌≡◌, ◌∷◌, refl}
+use Rattle.std.specs.Prelude.{◌≡◌, refl}
 use Rattle.std.proofs.Common.{ap, subst, sym}
 use Rattle.std.specs.Coded.{Coded, coded_list, coded_ℕ}
 use base.Stored.{Gv, gnil, gnum, gcons}

@@ -1,6 +1,6 @@
 -- Equality of types as a test is an equivalence.
 use Rattle.std.specs.Cmp.{IsEquivalence, decided}
-use Rattle.lt_definitions.specs.Types.{TypeTree, same_type}
+use Rattle.lt_definitions.specs.Types.{same_type}
 use Rattle.lt_definitions.proofs.Tests.{type-true, true-type}
 
 pub same_type-equiv : IsEquivalence same_type

@@ -1,7 +1,7 @@
-use Rattle.std.proofs.Common.{◌≡◌, ◌∙◌, ◌∷◌, [], ap, List, nat_eq}
+use Rattle.std.proofs.Common.{◌≡◌, ◌∙◌, ◌∷◌, [], ap, nat_eq}
 use Rattle.std.specs.Cmp.Lexicographic.{pointwise}
 use Rattle.indexmap.specs.IndexMap.{insert_entry}
-use Rattle.lt_definitions.specs.Types.{Chars, TypeTree, type_variable, bool, fun}
+use Rattle.lt_definitions.specs.Types.{TypeTree, type_variable, bool, fun}
 use Rattle.lt_types.proofs.Words.{a-word, a-chars, eq-word, eq-chars, imp-word, imp-chars, all-word, all-chars, eps-word, eps-chars}
 use Rattle.lt_hol.proofs.signature.built_in_consts.Goals as goal
 

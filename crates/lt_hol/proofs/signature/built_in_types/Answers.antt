@@ -1,7 +1,6 @@
-use Rattle.std.proofs.Common.{◌≡◌, ◌∙◌, ◌∷◌, [], ap, List, nat_eq, ℕ}
+use Rattle.std.proofs.Common.{◌≡◌, ◌∙◌, ◌∷◌, [], nat_eq}
 use Rattle.std.specs.Cmp.Lexicographic.{pointwise}
 use Rattle.indexmap.specs.IndexMap.{insert_entry}
-use Rattle.lt_definitions.specs.Types.{Chars}
 use Rattle.lt_types.proofs.Words.{bool-word, bool-chars, fun-word, fun-chars}
 use Rattle.lt_hol.proofs.signature.built_in_types.Goals as goal
 

@@ -1,5 +1,5 @@
 -- What is spelt as a name is one.
-use Rattle.std.proofs.Common.{◌≡◌, ◌∙◌, ap, sym, true, List, ℕ}
+use Rattle.std.proofs.Common.{◌∙◌, ap, List, ℕ}
 use Rattle.std.specs.Prelude.{chars}
 use Rattle.lt_definitions.specs.Slices.{bytes_of}
 use Rattle.lt_types.specs.Lexical.{is_name}

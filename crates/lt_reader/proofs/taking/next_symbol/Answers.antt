@@ -1,5 +1,5 @@
 -- What is to be done is passed on the way.
-use Rattle.std.proofs.Common.{◌≡◌, ◌∙◌, ap, refl, Bool, false, List, [], ◌∷◌, ◌++◌, reverse, arith}
+use Rattle.std.proofs.Common.{◌≡◌, ◌∙◌, ap, refl, false, [], ◌∷◌, ◌++◌, reverse, arith}
 use Rattle.lt_reader.specs.declared.symbol.Action.{Action}
 use Rattle.lt_reader.specs.declared.symbol.Symbol.{Symbol}
 use Rattle.lt_reader.specs.declared.symbol.Symbol.TheVariants.{AType, Constructor, MoreTypes, ATerm, MoreTerms, AName, ANumber, One, Semicolon, Colon, OpenBrace, Lines, Do, APart, AHeader}

@@ -1,6 +1,5 @@
 -- A text has one ending, so one that is accepted isn't refused, nor the other way round.
 use Rattle.std.proofs.Common.{rules, ◌≡◌, ◌⊎◌}
-use Rattle.std.proofs.lemmas.Grind.{common_steps}
 use Rattle.lt_run.proofs.Told.{accepts_valid, refuses_wrong}
 use Rattle.lt_run.proofs.sure.lt_sure.Goals as goal
 

@@ -1,6 +1,5 @@
-use Rattle.std.proofs.Common.{◌≡◌, ◌∙◌, ◌∷◌, ap, sym, subst, List, map}
+use Rattle.std.proofs.Common.{◌∙◌, ◌∷◌, ap, sym, subst, List}
 use Rattle.lt_definitions.specs.Terms.{TermTree}
-use Rattle.lt_definitions.specs.Binding.{replaced}
 use Rattle.lt_terms.specs.Layout.{HasRoom, grow}
 use Rattle.lt_terms.proofs.Replacements.{replaces, keeps}
 use Rattle.lt_terms.proofs.replacing.put.Goals as goal

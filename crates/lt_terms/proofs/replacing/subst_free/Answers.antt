@@ -1,4 +1,4 @@
-use Rattle.std.proofs.Common.{◌≡◌, ◌∙◌, ap, subst, sym, map, List, length}
+use Rattle.std.proofs.Common.{◌∙◌, ap, subst, sym, map, List, length}
 use Rattle.lt_definitions.specs.Terms.{TermTree}
 use Rattle.lt_definitions.specs.Binding.{replaced}
 use Rattle.lt_terms.specs.Layout.{HasRoom, first}

@@ -1,5 +1,5 @@
-use Rattle.std.proofs.Common.{◌≡◌, ◌∙◌, [], map, ap, sym, subst, true, MatchOption, Option}
-use Rattle.lt_definitions.specs.Types.{TypeMap, Matches, same_type, type_instance, type_variables}
+use Rattle.std.proofs.Common.{◌≡◌, ◌∙◌, [], map, ap, sym, subst, true, MatchOption}
+use Rattle.lt_definitions.specs.Types.{TypeMap, type_instance}
 use Rattle.lt_definitions.proofs.Tests.{type-true, true-type, true-false}
 use Rattle.lt_types.specs.Matching.{firsts_behind, AreOccurrences}
 use Rattle.lt_types.proofs.Matchings.{firsts-domain, firsts-match}

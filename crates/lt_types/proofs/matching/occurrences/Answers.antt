@@ -1,11 +1,11 @@
-use Rattle.std.proofs.Common.{◌≡◌, ◌+◌, ◌-◌, ◌≤◌, ◌<◌, ◌∷◌, ◌++◌, [], ◌∙◌, ap, sym, subst, refl, arith, length, take, get_or, reverse, List}
+use Rattle.std.proofs.Common.{◌≡◌, ◌+◌, ◌-◌, ◌<◌, ◌∷◌, ◌++◌, [], ◌∙◌, ap, sym, subst, refl, arith, length, take, get_or, reverse}
 use Rattle.std.proofs.lemmas.List.{reverse-append, get_or_default}
-use Rattle.lt_definitions.specs.Types.{TypeTree, TypeMap}
+use Rattle.lt_definitions.specs.Types.{TypeMap}
 use Rattle.lt_types.specs.declared.ty.TyNode.{TyNode}
 use Rattle.lt_types.specs.declared.ty.TyNode.TheVariants as TheVariants
-use Rattle.lt_types.specs.Layout.{type_nodes, type_size, forest}
+use Rattle.lt_types.specs.Layout.{type_nodes, forest}
 use Rattle.lt_types.proofs.Nodes.{length-type_nodes, whole}
-use Rattle.lt_types.proofs.Matchings.{IsLeft, left-init, left-done, past-none, past-var, past-con}
+use Rattle.lt_types.proofs.Matchings.{IsLeft, left-init, past-none, past-var, past-con}
 use Rattle.lt_types.proofs.matching.occurrences.Goals as goal
 
 pub loop-at-init : goal.loop-at-init

@@ -1,7 +1,6 @@
-use Rattle.std.proofs.Common.{◌≡◌, ◌+◌, ◌≤◌, ◌<◌, ◌++◌, [], ◌∙◌, ap, sym, subst, refl, arith, length, take, get_or, List, length-append, append-nil}
+use Rattle.std.proofs.Common.{◌≡◌, ◌+◌, ◌<◌, ◌++◌, [], ◌∙◌, ap, sym, subst, refl, arith, length, take, get_or, List, length-append, append-nil}
 use Rattle.std.proofs.lemmas.Result.{IfOk-weaker}
 use Rattle.lt_definitions.specs.Types.{TypeTree}
-use Rattle.lt_types.specs.declared.ty.TyNode.{TyNode}
 use Rattle.lt_types.specs.Layout.{type_nodes, forest, grow, HasRoom}
 use Rattle.lt_types.proofs.Nodes.{length-type_nodes, step, grow-under, IsStep}
 use Rattle.lt_types.proofs.Matchings.{room-part}

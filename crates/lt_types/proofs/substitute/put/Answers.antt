@@ -1,5 +1,5 @@
-use Rattle.std.proofs.Common.{◌≡◌, ◌∙◌, ◌-◌, ◌++◌, ◌∷◌, [], ap, sym, length, take, drop, map, List}
-use Rattle.lt_definitions.specs.Types.{TypeTree, type_constructor, row}
+use Rattle.std.proofs.Common.{◌∙◌, ◌-◌, ◌++◌, ◌∷◌, [], ap, sym, length, take, drop, map}
+use Rattle.lt_definitions.specs.Types.{type_constructor, row}
 use Rattle.lt_types.specs.Layout.{grow}
 use Rattle.lt_definitions.specs.Types.{type_instance}
 use Rattle.lt_types.proofs.Substitutions.{grow-type_instance}

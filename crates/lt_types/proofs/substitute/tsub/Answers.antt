@@ -1,7 +1,7 @@
-use Rattle.std.proofs.Common.{◌≡◌, ◌∙◌, ap, subst, sym, map, List, take, [], length}
+use Rattle.std.proofs.Common.{◌∙◌, ap, subst, sym, map, List, length}
 use Rattle.std.proofs.lemmas.Result.{IfOk-weaker}
 use Rattle.lt_definitions.specs.Types.{TypeTree}
-use Rattle.lt_types.specs.Layout.{HasRoom, grow, forest, first}
+use Rattle.lt_types.specs.Layout.{HasRoom, first}
 use Rattle.lt_definitions.specs.Types.{type_instance}
 use Rattle.lt_types.proofs.Nodes.{step, whole, IsStep}
 use Rattle.lt_types.proofs.Substitutions.{room-type_instance}

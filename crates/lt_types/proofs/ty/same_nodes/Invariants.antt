@@ -1,4 +1,4 @@
-use Rattle.std.proofs.Common.{◌≡◌, take, length}
+use Rattle.std.proofs.Common.{◌≡◌, take}
 use Rattle.lt_types.proofs.ty.same_nodes.Given as goal
 
 abbrev pub invariant-loop-at : goal.invariant-loop-at

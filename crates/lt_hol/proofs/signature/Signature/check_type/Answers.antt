@@ -1,4 +1,4 @@
-use Rattle.std.proofs.Common.{◌≡◌, ◌+◌, ◌-◌, ◌≤◌, ◌<◌, ◌∙◌, [], sym, subst, arith, length, None, true, is_some, Option, Bor}
+use Rattle.std.proofs.Common.{◌≡◌, ◌+◌, ◌-◌, ◌<◌, ◌∙◌, sym, subst, arith, length, None, true, is_some, Option, Bor}
 use Rattle.lt_types.specs.declared.ty.TyNode.{TyNode}
 use Rattle.lt_types.proofs.Nodes.{whole}
 use Rattle.lt_hol.specs.TypeNodes.{node_fault}

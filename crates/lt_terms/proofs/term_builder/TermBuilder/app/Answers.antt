@@ -1,4 +1,4 @@
-use Rattle.std.proofs.Common.{◌≡◌, ◌≤◌, ◌∙◌, ap, arith, length, []}
+use Rattle.std.proofs.Common.{◌≤◌, ◌∙◌, ap, arith, length, []}
 use Rattle.lt_terms.specs.Layout.{IsStack, applied, forest}
 use Rattle.lt_terms.proofs.Stacks.{stack-app, stack-length, stack-reads, stack-again}
 use Rattle.lt_terms.proofs.term_builder.TermBuilder.app.Goals as goal

@@ -1,5 +1,5 @@
-use Rattle.std.proofs.Common.{◌≡◌, ◌∙◌, ap}
-use Rattle.lt_terms.specs.Layout.{IsStack, grow}
+use Rattle.std.proofs.Common.{◌∙◌}
+use Rattle.lt_terms.specs.Layout.{grow}
 use Rattle.lt_terms.proofs.Stacks.{stack-leaf, stack-reads, stack-again}
 use Rattle.lt_terms.proofs.term_builder.TermBuilder.leaf.Goals as goal
 

@@ -1,4 +1,4 @@
-use Rattle.std.proofs.Common.{◌≡◌, ◌∙◌, ◌++◌, sym, ap, subst, List}
+use Rattle.std.proofs.Common.{◌∙◌, ◌++◌, sym, ap, subst, List}
 use Rattle.lt_definitions.specs.Terms.{TermTree}
 use Rattle.lt_terms.specs.Layout.{HasRoom, grow}
 use Rattle.lt_terms.proofs.TermNodes.{step, whole, room-over, grow-over, IsStep}

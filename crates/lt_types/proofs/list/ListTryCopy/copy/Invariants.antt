@@ -1,4 +1,4 @@
-use Rattle.std.proofs.Common.{◌≡◌, List}
+use Rattle.std.proofs.Common.{◌≡◌}
 use Rattle.std.proofs.Common.{take}
 use Rattle.lt_types.proofs.list.ListTryCopy.copy.Given as goal
 

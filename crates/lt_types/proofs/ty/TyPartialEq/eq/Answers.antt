@@ -1,4 +1,4 @@
-use Rattle.std.proofs.Common.{◌≡◌, ◌∙◌, ap, sym, true}
+use Rattle.std.proofs.Common.{◌≡◌, ◌∙◌, ap, sym}
 use Rattle.std.specs.Bool.{one_answer}
 use Rattle.lt_definitions.specs.Types.{same_type}
 use Rattle.lt_definitions.proofs.Tests.{type-true, true-type}

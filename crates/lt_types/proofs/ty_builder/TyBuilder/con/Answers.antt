@@ -1,4 +1,4 @@
-use Rattle.std.proofs.Common.{◌≡◌, ◌≤◌, ◌-◌, ◌∙◌, ◌++◌, ◌∷◌, [], ap, sym, length, take, drop, arith, List}
+use Rattle.std.proofs.Common.{◌≡◌, ◌≤◌, ◌-◌, ◌∙◌, ◌++◌, ◌∷◌, [], ap, length, take, drop, arith, List}
 use Rattle.lt_definitions.specs.Types.{TypeTree, type_constructor, row}
 use Rattle.lt_types.specs.Layout.{IsRow, forest}
 use Rattle.lt_types.proofs.Rows.{row-con, row-reads, row-again, length-row}

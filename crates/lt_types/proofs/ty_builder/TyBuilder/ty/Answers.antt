@@ -1,4 +1,4 @@
-use Rattle.std.proofs.Common.{◌≡◌, ◌∙◌, ◌++◌, sym, ap, subst, append-nil, List}
+use Rattle.std.proofs.Common.{◌∙◌, ◌++◌, sym, ap, subst, append-nil, List}
 use Rattle.lt_definitions.specs.Types.{TypeTree}
 use Rattle.lt_types.specs.Layout.{HasRoom, grow}
 use Rattle.lt_types.proofs.Nodes.{step, whole, room-under, grow-under, IsStep}

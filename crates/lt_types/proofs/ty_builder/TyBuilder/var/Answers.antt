@@ -1,6 +1,5 @@
-use Rattle.std.proofs.Common.{◌≡◌, ◌∙◌, ◌++◌, ◌∷◌, [], ap}
+use Rattle.std.proofs.Common.{◌∙◌, ◌++◌, ◌∷◌, [], ap}
 use Rattle.lt_definitions.specs.Types.{type_variable}
-use Rattle.lt_types.specs.Layout.{IsRow}
 use Rattle.lt_types.proofs.Rows.{row-var, row-reads, row-again}
 use Rattle.lt_types.proofs.ty_builder.TyBuilder.var.Goals as goal
 
