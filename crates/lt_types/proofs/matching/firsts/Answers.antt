@@ -1,4 +1,4 @@
-use Rattle.std.proofs.Common.{◌∙◌, ap, sym, is_some, true, false}
+use Rattle.std.proofs.Common.{◌∙◌, ap, sym, is_some}
 use Rattle.lt_types.specs.Maps.{with_pair}
 use Rattle.lt_types.proofs.Matchings.{firsts-new, firsts-old, copied-some}
 use Rattle.lt_types.proofs.matching.firsts.Goals as goal

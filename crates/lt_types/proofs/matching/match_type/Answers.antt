@@ -1,4 +1,4 @@
-use Rattle.std.proofs.Common.{◌≡◌, ◌∙◌, [], map, ap, sym, subst, true, MatchOption}
+use Rattle.std.proofs.Common.{◌≡◌, ◌∙◌, [], map, ap, sym, subst, MatchOption}
 use Rattle.lt_definitions.specs.Types.{TypeMap, type_instance}
 use Rattle.lt_definitions.proofs.Tests.{type-true, true-type, true-false}
 use Rattle.lt_types.specs.Matching.{firsts_behind, AreOccurrences}

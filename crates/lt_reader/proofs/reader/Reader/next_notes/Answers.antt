@@ -1,5 +1,5 @@
 -- Headers are passed over; then an item, the end or a wrong place.
-use Rattle.std.proofs.Common.{◌∙◌, ap, sym, length, true, false}
+use Rattle.std.proofs.Common.{◌∙◌, ap, sym, length}
 use Rattle.lt_reader.specs.declared.symbol.Symbol.TheVariants.{APart}
 use Rattle.lt_reader.specs.Notes.{is_header}
 use Rattle.lt_reader.proofs.Parts.{past_on, past_to, past_fails, reads_source}
