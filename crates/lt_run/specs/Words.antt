@@ -1,5 +1,5 @@
 -- The words of a command line that are accepted.
-use Rattle.std.specs.Prelude.{◌≡◌, ℕ, List, [], ◌∷◌, codes}
+use Rattle.std.specs.Prelude.{◌≡◌, ℕ, List, [], ◌∷◌, ◌++◌, codes}
 
 -- the words name a mode and its file
 abbrev pub AreWords : List (List ℕ) → List ℕ → Type 0
