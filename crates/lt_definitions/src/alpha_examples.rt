@@ -4,7 +4,6 @@ ghost use Rattle.lt_definitions.specs.Types.{TypeMap, bool, fun};
 ghost use Rattle.lt_definitions.specs.Terms.{has_loose, term_instance};
 ghost use Rattle.lt_definitions.specs.Alpha.{is_alpha, is_same_up_to_types};
 ghost use Rattle.lt_definitions.specs.Binding.{opened, replaced, closed_over};
-ghost use Rattle.lt_definitions.specs.Nameless.{nameless, nameless_free, nameless_bound, nameless_loose, nameless_application, nameless_abstraction};
 ghost use Rattle.lt_definitions.specs.Samples.{tyvar, free, bound, con_at, app, lambda, all_equal};
 
 /// A binder hides an outer one of its name.
@@ -23,15 +22,6 @@ pub fn alpha_with_loose_names()
     ensures taken_on_one_side { is_alpha (lambda "x" bool (bound "y")) (lambda "y" bool (bound "y")) ≡ false }
     ensures free_is_not_bound { is_alpha (free "x" bool) (bound "x") ≡ false }
     ensures free_of_two_types { is_alpha (free "x" bool) (free "x" (tyvar "a")) ≡ false }
-{}
-
-/// A bound name becomes the number of binders between it and its own, and a loose name stays.
-pub fn nameless_forms()
-    ensures indices { nameless [] (lambda "x" bool (lambda "y" bool (app (bound "x") (bound "y"))))
-        ≡ nameless_abstraction bool (nameless_abstraction bool (nameless_application (nameless_bound 1) (nameless_bound 0))) }
-    ensures shadowed { nameless [] (lambda "x" bool (lambda "x" bool (bound "x"))) ≡ nameless_abstraction bool (nameless_abstraction bool (nameless_bound 0)) }
-    ensures loose { nameless [] (lambda "x" bool (bound "z")) ≡ nameless_abstraction bool (nameless_loose (codes "z")) }
-    ensures free_stays { nameless [] (lambda "x" bool (free "x" bool)) ≡ nameless_abstraction bool (nameless_free (codes "x") bool) }
 {}
 
 /// Statements are the same up to type names where type variables stand in the same places.

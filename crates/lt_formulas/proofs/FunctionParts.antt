@@ -6,7 +6,7 @@ use Rattle.std.proofs.lemmas.Str.{chars-encodes}
 use Rattle.lt_definitions.specs.Types.{Chars, TypeTree, TypeMap, Matches, type_variable, type_constructor, no_types, type_and, bool, fun, same_name, same_type, type_instance}
 use Rattle.lt_definitions.specs.Typing.{mismatch}
 use Rattle.lt_definitions.specs.Rules.{joined_type, predicate_over, ok_of}
-use Rattle.lt_definitions.proofs.Tests.{name-true}
+use Rattle.lt_definitions.proofs.SameNames.{name-true}
 use Rattle.lt_types.specs.Lexical.{is_name}
 use Rattle.lt_types.proofs.Words.{xs-are-name}
 use Rattle.lt_formulas.specs.FunctionTypes.{function_parts}

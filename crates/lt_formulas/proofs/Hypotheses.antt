@@ -3,8 +3,8 @@ use Rattle.std.proofs.Common.{◌≡◌, ℕ, ◌+◌, ◌<◌, List, [], ◌∷
 use Rattle.std.proofs.lemmas.List.{map-append}
 use Rattle.std.proofs.lemmas.List.Elements.{filter-append}
 use Rattle.std.specs.List.{list_any}
-use Rattle.lt_definitions.specs.Nameless.{Nameless}
-use Rattle.lt_definitions.specs.NamelessRules.{same_nameless, nameless_union, nameless_without}
+use Rattle.lt_nameless.specs.Nameless.{Nameless}
+use Rattle.lt_nameless.specs.NamelessRules.{same_nameless, nameless_union, nameless_without}
 use Rattle.lt_store.specs.declared.node.Node.{Node}
 use Rattle.lt_store.specs.Trees.{tree_at, trees}
 use Rattle.lt_store.proofs.SameTerms.{one_test, nameless-true, true-nameless}

@@ -4,11 +4,11 @@ use Rattle.std.proofs.lemmas.Option.{none-some}
 use Rattle.lt_definitions.specs.Types.{TypeTree}
 use Rattle.lt_definitions.specs.Typing.{Signature, Fault}
 use Rattle.lt_definitions.specs.Derivations.{fault_of}
-use Rattle.lt_definitions.specs.Nameless.{Nameless, IsWhole}
+use Rattle.lt_nameless.specs.Nameless.{Nameless, IsWhole}
 use Rattle.lt_store.specs.declared.node.Node.{Node}
 use Rattle.lt_store.specs.Trees.{tree_at}
-use Rattle.lt_definitions.specs.NamelessRules.{nameless_typed, nameless_fault}
-use Rattle.lt_definitions.proofs.WholeSteps.{typed-whole}
+use Rattle.lt_nameless.specs.NamelessRules.{nameless_typed, nameless_fault}
+use Rattle.lt_nameless.proofs.ClosedSteps.{typed-whole}
 
 term-whole : (sig : Signature) (n : Nameless) → nameless_fault sig n ≡ None → IsWhole 0 n
 term-whole sig n h = by (nameless_typed sig [] n) refl

@@ -1,6 +1,6 @@
 -- The parts of abstractions and redexes.
 use Rattle.std.specs.Prelude.{zero, Bool, true, false, Option, Some, None}
-use Rattle.lt_definitions.specs.Nameless.{Nameless, nameless_bound, nameless_application, nameless_abstraction}
+use Rattle.lt_nameless.specs.Nameless.{Nameless, nameless_bound, nameless_application, nameless_abstraction}
 
 -- the body of an abstraction
 abbrev pub body_of : Nameless → Option Nameless

@@ -1,7 +1,7 @@
 -- The parts of terms that have a shape.
 use Rattle.std.specs.Prelude.{List, [], ◌∷◌, Option, Some, None, Bool, false, if◌then◌else◌, codes}
 use Rattle.lt_definitions.specs.Types.{Chars, TypeTree, same_name}
-use Rattle.lt_definitions.specs.Nameless.{Nameless, nameless_constant}
+use Rattle.lt_nameless.specs.Nameless.{Nameless, nameless_constant}
 
 -- the only one of some types
 abbrev pub only_type : List TypeTree → Option TypeTree

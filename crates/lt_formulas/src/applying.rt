@@ -1,7 +1,7 @@
 //! Applications, made in a store.
 ghost use Rattle.std.specs.Prelude.{◌≡◌, ◌<◌, length, IfOk};
-ghost use Rattle.lt_definitions.specs.Nameless.{nameless_application};
-ghost use Rattle.lt_definitions.specs.NamelessRules.{nameless_equation, nameless_at};
+ghost use Rattle.lt_nameless.specs.Nameless.{nameless_application};
+ghost use Rattle.lt_nameless.specs.NamelessRules.{nameless_equation, nameless_at};
 ghost use Rattle.lt_store.specs.Trees.{tree_at, Extends};
 
 use crate::connectives::mk_equation;

@@ -1,8 +1,8 @@
 //! Terms closed over a free variable, made in a store.
 ghost use Rattle.std.specs.Prelude.{◌≡◌, ◌<◌, length, IfOk};
 ghost use Rattle.lt_definitions.specs.Types.{fun};
-ghost use Rattle.lt_definitions.specs.Nameless.{nameless_abstraction};
-ghost use Rattle.lt_definitions.specs.NamelessRules.{nameless_equation, nameless_for_all, abstracted};
+ghost use Rattle.lt_nameless.specs.Nameless.{nameless_abstraction};
+ghost use Rattle.lt_nameless.specs.NamelessRules.{nameless_equation, nameless_for_all, abstracted};
 ghost use Rattle.lt_store.specs.Trees.{tree_at, Extends};
 
 use crate::connectives::{mk_equation, mk_for_all};

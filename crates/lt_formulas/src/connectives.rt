@@ -1,7 +1,7 @@
 //! Equations, implications, universal statements and falsity, made in a store.
 ghost use Rattle.std.specs.Prelude.{◌≡◌, ◌<◌, length, IfOk};
-ghost use Rattle.lt_definitions.specs.Nameless.{nameless_application};
-ghost use Rattle.lt_definitions.specs.NamelessRules.{nameless_equation, nameless_implies, nameless_for_all, nameless_falsity};
+ghost use Rattle.lt_nameless.specs.Nameless.{nameless_application};
+ghost use Rattle.lt_nameless.specs.NamelessRules.{nameless_equation, nameless_implies, nameless_for_all, nameless_falsity};
 ghost use Rattle.lt_store.specs.Trees.{tree_at, Extends};
 
 use crate::constants::{mk_all, mk_eq, mk_imp};

@@ -1,6 +1,6 @@
 //! The constants that the rules speak of, made in a store.
 ghost use Rattle.std.specs.Prelude.{◌≡◌, ◌<◌, ◌∷◌, [], length, codes, IfOk};
-ghost use Rattle.lt_definitions.specs.Nameless.{nameless_constant};
+ghost use Rattle.lt_nameless.specs.Nameless.{nameless_constant};
 ghost use Rattle.lt_store.specs.Trees.{tree_at, Extends};
 
 use lt_hol::{List, Memory, Name, Ty, Tys};

@@ -1,7 +1,7 @@
 //! Lists of hypotheses: removal and union up to alpha equality.
 ghost use Rattle.std.specs.Prelude.{◌≡◌, ◌<◌, ◌∷◌, [], length, IfOk};
 ghost use Rattle.std.specs.List.{list_any};
-ghost use Rattle.lt_definitions.specs.NamelessRules.{same_nameless, nameless_union, nameless_without};
+ghost use Rattle.lt_nameless.specs.NamelessRules.{same_nameless, nameless_union, nameless_without};
 ghost use Rattle.lt_store.specs.Trees.{tree_at, trees, AllBelow};
 
 use lt_hol::{Ids, Memory, TryCopy};

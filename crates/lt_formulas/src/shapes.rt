@@ -2,7 +2,7 @@
 ghost use Rattle.std.specs.Prelude.{◌≡◌, ◌<◌, length, codes, IsTrue, IfOk, IfSome, nat_lt};
 ghost use Rattle.std.specs.List.{list_all};
 ghost use Rattle.std.specs.Option.{option_copied, option_map};
-ghost use Rattle.lt_definitions.specs.NamelessRules.{nameless_as_equation, nameless_as_implication, nameless_as_forall};
+ghost use Rattle.lt_nameless.specs.NamelessRules.{nameless_as_equation, nameless_as_implication, nameless_as_forall};
 ghost use Rattle.lt_store.specs.Trees.{tree_at};
 ghost use Rattle.lt_formulas.specs.Shapes.{is_imp, only_type, type_argument};
 

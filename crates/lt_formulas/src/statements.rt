@@ -1,7 +1,7 @@
 //! The statements that the rules `select` and `ccontr` give, made in a store.
 ghost use Rattle.std.specs.Prelude.{◌≡◌, ◌<◌, ◌∷◌, [], length, codes, IfOk};
-ghost use Rattle.lt_definitions.specs.Nameless.{nameless_constant, nameless_application, nameless_bound};
-ghost use Rattle.lt_definitions.specs.NamelessRules.{nameless_implies, nameless_falsity, nameless_selection};
+ghost use Rattle.lt_nameless.specs.Nameless.{nameless_constant, nameless_application, nameless_bound};
+ghost use Rattle.lt_nameless.specs.NamelessRules.{nameless_implies, nameless_falsity, nameless_selection};
 ghost use Rattle.lt_store.specs.Trees.{tree_at, Extends};
 
 use crate::connectives::{mk_falsity, mk_for_all, mk_implies};

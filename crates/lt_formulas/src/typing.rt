@@ -1,7 +1,7 @@
 //! The types of terms without a fault.
 ghost use Rattle.std.specs.Prelude.{◌≡◌, ◌<◌, length, None, IfOk};
 ghost use Rattle.lt_definitions.specs.Types.{bool};
-ghost use Rattle.lt_definitions.specs.NamelessRules.{nameless_fault, nameless_has_type, nameless_type_of};
+ghost use Rattle.lt_nameless.specs.NamelessRules.{nameless_fault, nameless_has_type, nameless_type_of};
 ghost use Rattle.lt_store.specs.Trees.{tree_at};
 
 use lt_hol::{Memory, Signature, Ty};

@@ -9,7 +9,7 @@ use Rattle.std.proofs.lemmas.Option.{same_Some, none-some, slice_get-get_or, sli
 use Rattle.lt_types.specs.declared.ty.TyNode.{TyNode}
 use Rattle.lt_types.specs.declared.ty.TyNode.TheVariants.{Var, Con}
 use Rattle.lt_definitions.specs.Types.{TypeTree, type_variable, type_constructor, row, listed}
-use Rattle.lt_definitions.proofs.Tests.{listed-row, both-true, true-both}
+use Rattle.lt_definitions.proofs.SameNames.{listed-row, both-true, true-both}
 use Rattle.lt_hol.specs.TypeTables.{type_at, types_at, made_of, types_after, all_below, is_below, IsGrounded, IsApart, Extends}
 
 pub types_after-append : (ts : List TypeTree) (ms ns : List TyNode) → types_after ts (ms ++ ns) ≡ types_after (types_after ts ms) ns

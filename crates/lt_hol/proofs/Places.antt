@@ -3,7 +3,7 @@ use Rattle.std.proofs.Common.{◌≡◌, ℕ, suc, ◌+◌, ◌<◌, List, [], �
 use Rattle.std.specs.List.{list_all}
 use Rattle.std.proofs.Math.ListN.{get_or-append}
 use Rattle.std.proofs.lemmas.Bool.{ltb-true, lt-ltb}
-use Rattle.lt_definitions.proofs.Tests.{both-true, true-both}
+use Rattle.lt_definitions.proofs.SameNames.{both-true, true-both}
 use Rattle.lt_definitions.specs.Terms.{TermTree, bound_name}
 use Rattle.lt_definitions.specs.Rules as rules
 use Rattle.lt_terms.specs.declared.term.TermNode.{TermNode}

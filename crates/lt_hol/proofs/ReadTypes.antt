@@ -7,7 +7,7 @@ use Rattle.lt_types.specs.declared.ty.TyNode.{TyNode}
 use Rattle.lt_types.specs.declared.ty.TyNode.TheVariants.{Var, Con}
 use Rattle.lt_types.specs.Layout.{grow, HasRoom, sizes, type_size}
 use Rattle.lt_definitions.specs.Types.{TypeTree, type_variable, type_constructor, row, listed}
-use Rattle.lt_definitions.proofs.Tests.{listed-row, both-true}
+use Rattle.lt_definitions.proofs.SameNames.{listed-row, both-true}
 use Rattle.lt_hol.specs.declared.read_type.Making.{Making}
 use Rattle.lt_hol.specs.declared.read_type.Making.TheVariants.{Whole, Root}
 use Rattle.lt_hol.specs.Makings.{numbers_of, wholes}

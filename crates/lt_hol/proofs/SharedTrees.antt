@@ -3,7 +3,7 @@ use Rattle.std.proofs.Common.{◌≡◌, ℕ, zero, suc, ◌+◌, ◌*◌, ◌<�
 use Rattle.std.proofs.Math.ListN.{get_or-append}
 use Rattle.std.proofs.lemmas.List.{reverse-append, get_or_default}
 use Rattle.std.proofs.lemmas.Bool.{ltb-true}
-use Rattle.lt_definitions.proofs.Tests.{both-true}
+use Rattle.lt_definitions.proofs.SameNames.{both-true}
 use Rattle.lt_definitions.specs.Terms.{TermTree, bound_name, application, abstraction}
 use Rattle.lt_terms.specs.declared.term.TermNode.{TermNode}
 use Rattle.lt_terms.specs.declared.term.TermNode.TheVariants.{Free, Bound, Const, App, Lam}

@@ -7,7 +7,7 @@ use Rattle.lt_types.specs.declared.ty.TyNode.TheVariants.{Var, Con}
 use Rattle.lt_types.specs.Layout.{grow, HasRoom, forest, type_nodes}
 use Rattle.lt_types.proofs.Nodes.{step}
 use Rattle.lt_definitions.specs.Types.{Chars, TypeTree, type_variable, type_constructor, row, listed, found}
-use Rattle.lt_definitions.proofs.Tests.{listed-row}
+use Rattle.lt_definitions.proofs.SameNames.{listed-row}
 use Rattle.lt_definitions.specs.Typing.{Signature, Fault, earlier, constructor_fault, type_fault, types_fault}
 use Rattle.lt_hol.specs.TypeNodes.{arguments, node_fault}
 

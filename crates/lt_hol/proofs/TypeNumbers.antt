@@ -9,7 +9,7 @@ use Rattle.lt_types.specs.declared.ty.TyNode.{TyNode}
 use Rattle.lt_types.specs.declared.ty.TyNode.TheVariants.{Var, Con}
 use Rattle.lt_types.specs.Layout.{grow}
 use Rattle.lt_definitions.specs.Types.{Chars, same_name, TypeTree, type_variable, type_constructor, row}
-use Rattle.lt_definitions.proofs.Tests.{both-true, true-both}
+use Rattle.lt_definitions.proofs.SameNames.{both-true, true-both}
 use Rattle.lt_hol.specs.TypeTables.{type_at, types_at, made_of, all_below, is_below, IsTable, Extends, function_parts, node_parts, both}
 use Rattle.lt_hol.proofs.DistinctTypes.{types_at-more, all-more}
 

@@ -7,7 +7,7 @@ use Rattle.std.proofs.Math.Seq.{drop-cons, take-length, get_or-append_seam}
 use Rattle.lt_definitions.specs.Types.{Chars, same_name, TypeTree, type_variable, type_constructor, no_types, type_and, row, same_type, found, type_variables}
 use Rattle.lt_definitions.specs.Typing.{Signature, Fault, unknown_type, arity, unknown_const, type_args, unbound, mismatch, with_ok, unless, applied_type, type_fault, types_fault, earlier, at_types, constant_type, typed}
 use Rattle.lt_definitions.specs.Terms.{TermTree, free_variable, bound_name, constant, application, abstraction}
-use Rattle.lt_definitions.proofs.Tests.{bool_cases, type-true, true-type}
+use Rattle.lt_definitions.proofs.SameNames.{bool_cases, type-true, true-type}
 use Rattle.lt_hol.specs.declared.outcome.Outcome.{Outcome}
 use Rattle.lt_hol.specs.declared.outcome.Outcome.TheVariants.{Known, Mismatch, Wrong}
 use Rattle.lt_hol.specs.declared.type_fault.TypeFault.{TypeFault}

@@ -1,7 +1,7 @@
 -- The notes of each writing from the first on.
 use Rattle.std.proofs.Common.{◌≡◌, List, [], ◌∷◌, ◌++◌, reverse, refl, sym, ◌∙◌, ap, append_assoc, append-nil}
 use Rattle.std.proofs.lemmas.List.{reverse-append}
-use Rattle.lt_definitions.specs.PlainTexts.{TypeText, alone, in_brackets, TypeTexts, no_more_types, more_types, TermText, word, applied, TermTexts, no_more_terms, more_terms, LineText, assume_line, impI_line, mp_line, thm_line, ItemText, type_text, const_text, axiom_text, lemma_text}
+use Rattle.lt_texts.specs.PlainTexts.{TypeText, alone, in_brackets, TypeTexts, no_more_types, more_types, TermText, word, applied, TermTexts, no_more_terms, more_terms, LineText, assume_line, impI_line, mp_line, thm_line, ItemText, type_text, const_text, axiom_text, lemma_text}
 use Rattle.lt_reader.specs.declared.symbol.Command.TheVariants.{TypeItem, ConstItem, AxiomItem, LemmaItem}
 use Rattle.lt_reader.specs.declared.symbol.Rule.TheVariants.{Assume, ImpI, Mp, Thm}
 use Rattle.lt_reader.specs.declared.symbol.Action.TheVariants.{KeepType, KeepTerm, MakeLine}

@@ -5,7 +5,7 @@ use Rattle.std.proofs.Math.Seq.{take-append_seam, drop-append_seam}
 use Rattle.lt_definitions.specs.Types.{Chars, TypeTree, TypeTrees, type_constructor, no_types, type_and, row, listed}
 use Rattle.lt_definitions.specs.Terms.{TermTree, application}
 use Rattle.lt_definitions.specs.Items.{const_item, axiom_item, lemma_item}
-use Rattle.lt_definitions.specs.PlainTexts.{TypeText, alone, in_brackets, TypeTexts, no_more_types, more_types, type_of_text, types_of_text, TermText, word, applied, TermTexts, no_more_terms, more_terms, term_of_text, applied_to, LineText, assume_line, impI_line, mp_line, thm_line, rule_of_text, ItemText, type_text, const_text, axiom_text, lemma_text, item_of_text}
+use Rattle.lt_texts.specs.PlainTexts.{TypeText, alone, in_brackets, TypeTexts, no_more_types, more_types, type_of_text, types_of_text, TermText, word, applied, TermTexts, no_more_terms, more_terms, term_of_text, applied_to, LineText, assume_line, impI_line, mp_line, thm_line, rule_of_text, ItemText, type_text, const_text, axiom_text, lemma_text, item_of_text}
 use Rattle.lt_reader.specs.declared.symbol.Rule.TheVariants.{Assume, ImpI}
 use Rattle.lt_reader.specs.declared.symbol.Action.TheVariants.{KeepType, KeepTerm, MakeLine}
 use Rattle.lt_reader.specs.declared.symbol.Instruction.{Instruction}

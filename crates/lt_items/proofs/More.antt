@@ -6,7 +6,7 @@ use Rattle.std.proofs.Math.Seq.{get_or-append_seam}
 use Rattle.std.proofs.lemmas.Bool.{ltb-true, lt-ltb}
 use Rattle.std.proofs.lemmas.List.{reverse-append}
 use Rattle.std.proofs.lemmas.List.Folds.{list_all-append}
-use Rattle.lt_definitions.proofs.Tests.{both-true, true-both}
+use Rattle.lt_definitions.proofs.SameNames.{both-true, true-both}
 use Rattle.lt_definitions.specs.Terms.{TermTree, bound_name}
 use Rattle.lt_terms.specs.declared.term.TermNode.{TermNode}
 use Rattle.lt_terms.specs.declared.term.TermNode.TheVariants.{App}

@@ -1,7 +1,7 @@
 //! Makes items of notes.
 ghost use Rattle.std.specs.Prelude.{◌≡◌, Some, reverse, IfOk, IsSome};
 ghost use Rattle.std.specs.Vec.Iter.{into_iter_items};
-ghost use Rattle.lt_definitions.specs.PlainTexts.{ItemText, item_of_text};
+ghost use Rattle.lt_texts.specs.PlainTexts.{ItemText, item_of_text};
 ghost use Rattle.lt_hol.specs.Items.{item_of};
 ghost use Rattle.lt_reader.specs.Notes.{item_made};
 ghost use Rattle.lt_items.specs.Making.{item_from, body_from, command_from, label_from, count_from};

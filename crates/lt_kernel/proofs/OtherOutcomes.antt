@@ -4,9 +4,9 @@ use Rattle.std.specs.Option.{option_map}
 use Rattle.std.specs.List.{list_any}
 use Rattle.lt_definitions.specs.Types.{Chars, TypeTree, fun}
 use Rattle.lt_definitions.specs.Typing.{Signature}
-use Rattle.lt_definitions.specs.Nameless.{Nameless, NamelessSequent, nameless_free, nameless_bound, nameless_loose, nameless_constant, nameless_application, nameless_abstraction}
+use Rattle.lt_nameless.specs.Nameless.{Nameless, NamelessSequent, nameless_free, nameless_bound, nameless_loose, nameless_constant, nameless_application, nameless_abstraction}
 use Rattle.lt_definitions.specs.Rules.{line_at, joined_type}
-use Rattle.lt_definitions.specs.NamelessRules.{nameless_gives, nameless_union, nameless_equation, nameless_for_all, nameless_at, nameless_replaced, nameless_instance, nameless_has_free, nameless_has_type, nameless_type_of, nameless_as_equation, nameless_as_forall, nameless_beta, nameless_eta, abstracted, instance_at, has_index, nameless_cong_gives, nameless_abs_gives, nameless_beta_gives, nameless_eta_gives, nameless_allI_gives, nameless_allE_gives, nameless_inst_gives, nameless_tinst_gives}
+use Rattle.lt_nameless.specs.NamelessRules.{nameless_gives, nameless_union, nameless_equation, nameless_for_all, nameless_at, nameless_replaced, nameless_instance, nameless_has_free, nameless_has_type, nameless_type_of, nameless_as_equation, nameless_as_forall, nameless_beta, nameless_eta, abstracted, instance_at, has_index, nameless_cong_gives, nameless_abs_gives, nameless_beta_gives, nameless_eta_gives, nameless_allI_gives, nameless_allE_gives, nameless_inst_gives, nameless_tinst_gives}
 use Rattle.lt_formulas.specs.Redexes.{redex_parts, expanded}
 use Rattle.lt_kernel.proofs.Outcomes.{found-on, holds-on}
 

@@ -3,9 +3,9 @@ use Rattle.std.proofs.Common.{◌≡◌, ℕ, ◌<◌, List, length, Bool, true,
 use Rattle.lt_definitions.specs.Types.{TypeTree, bool}
 use Rattle.lt_definitions.specs.Typing.{Signature}
 use Rattle.lt_definitions.specs.Rules.{Reason, with_found, where_holds, line_at}
-use Rattle.lt_definitions.specs.Nameless.{Nameless, NamelessSequent}
-use Rattle.lt_definitions.specs.NamelessRules.{NamelessOutcome, nameless_gives, nameless_has_type, nameless_as_equation, nameless_as_implication, nameless_equation, nameless_implies, nameless_union, nameless_without, same_nameless, nameless_impI_gives, nameless_sym_gives, nameless_trans_gives, nameless_iff_gives}
-use Rattle.lt_definitions.proofs.Tests.{true-both}
+use Rattle.lt_nameless.specs.Nameless.{Nameless, NamelessSequent}
+use Rattle.lt_nameless.specs.NamelessRules.{NamelessOutcome, nameless_gives, nameless_has_type, nameless_as_equation, nameless_as_implication, nameless_equation, nameless_implies, nameless_union, nameless_without, same_nameless, nameless_impI_gives, nameless_sym_gives, nameless_trans_gives, nameless_iff_gives}
+use Rattle.lt_definitions.proofs.SameNames.{true-both}
 use Rattle.lt_store.specs.declared.node.Node.{Node}
 use Rattle.lt_store.specs.Trees.{tree_at, trees, AllBelow, Extends}
 use Rattle.lt_store.proofs.Lists.{trees-extends, AllBelow-wider}

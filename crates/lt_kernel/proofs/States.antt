@@ -5,8 +5,8 @@ use Rattle.std.proofs.lemmas.List.{map-append}
 use Rattle.std.proofs.lemmas.List.Elements.{All-append, All-cons, All-nil}
 use Rattle.lt_definitions.specs.Types.{Chars}
 use Rattle.lt_definitions.specs.Typing.{Signature}
-use Rattle.lt_definitions.specs.Nameless.{Nameless}
-use Rattle.lt_definitions.specs.NamelessRules.{NamelessOutcome}
+use Rattle.lt_nameless.specs.Nameless.{Nameless}
+use Rattle.lt_nameless.specs.NamelessRules.{NamelessOutcome}
 use Rattle.lt_hol.specs.declared.line.Line.{Line}
 use Rattle.lt_store.specs.declared.node.Node.{Node}
 use Rattle.lt_store.specs.Trees.{tree_at, Extends}

@@ -1,7 +1,7 @@
 -- Lines whose terms are ids of a store.
 use Rattle.std.specs.Prelude.{◌≡◌, ℕ, ◌<◌, List, length, None}
 use Rattle.lt_definitions.specs.Typing.{Signature}
-use Rattle.lt_definitions.specs.NamelessRules.{NamelessRule, line_assume, line_weaken, line_refl, line_sym, line_trans, line_cong, line_abs, line_beta, line_eta, line_eqmp, line_impI, line_mp, line_allI, line_allE, line_iff, line_inst, line_tinst, line_select, line_ccontr, line_thm, nameless_rule_fault}
+use Rattle.lt_nameless.specs.NamelessRules.{NamelessRule, line_assume, line_weaken, line_refl, line_sym, line_trans, line_cong, line_abs, line_beta, line_eta, line_eqmp, line_impI, line_mp, line_allI, line_allE, line_iff, line_inst, line_tinst, line_select, line_ccontr, line_thm, nameless_rule_fault}
 use Rattle.lt_hol.specs.declared.line.Line.{Line}
 use Rattle.lt_hol.specs.declared.line.Line.TheVariants.{Assume, Weaken, Refl, Sym, Trans, Cong, Abs, Beta, Eta, Eqmp, ImpI, Mp, AllI, AllE, Iff, Inst, Tinst, Select, Ccontr, Thm}
 use Rattle.lt_store.specs.declared.node.Node.{Node}

@@ -2,8 +2,8 @@
 use Rattle.std.specs.Prelude.{◌≡◌, ℕ, ◌<◌, List, length, map, Result, Ok, Err}
 use Rattle.std.specs.List.{All}
 use Rattle.lt_definitions.specs.Types.{Chars}
-use Rattle.lt_definitions.specs.Nameless.{Nameless, NamelessSequent}
-use Rattle.lt_definitions.specs.NamelessRules.{NamelessOutcome}
+use Rattle.lt_nameless.specs.Nameless.{Nameless, NamelessSequent}
+use Rattle.lt_nameless.specs.NamelessRules.{NamelessOutcome}
 use Rattle.lt_store.specs.declared.node.Node.{Node}
 use Rattle.lt_store.specs.Trees.{tree_at, trees, AllBelow}
 use Rattle.lt_kernel.specs.declared.sequent.Sequent.{Sequent}

@@ -2,8 +2,8 @@
 use Rattle.std.specs.Prelude.{◌≡◌, ℕ, List, [], ◌∷◌, ◌++◌, length, is_some, true, None, Result, Ok, Err}
 use Rattle.lt_definitions.specs.Types.{Chars, found}
 use Rattle.lt_definitions.specs.Typing.{Signature}
-use Rattle.lt_definitions.specs.Nameless.{Nameless, NamelessSequent}
-use Rattle.lt_definitions.specs.NamelessRules.{NamelessOutcome, nameless_step}
+use Rattle.lt_nameless.specs.Nameless.{Nameless, NamelessSequent}
+use Rattle.lt_nameless.specs.NamelessRules.{NamelessOutcome, nameless_step}
 use Rattle.lt_hol.specs.declared.line.Line.{Line}
 use Rattle.lt_store.specs.declared.node.Node.{Node}
 use Rattle.lt_store.specs.Trees.{Extends}

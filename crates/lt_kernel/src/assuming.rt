@@ -1,6 +1,6 @@
 //! The rules that bring in a statement: `assume`, `weaken` and `thm`.
 ghost use Rattle.std.specs.Prelude.{◌≡◌, ◌<◌, length, None};
-ghost use Rattle.lt_definitions.specs.NamelessRules.{nameless_fault, nameless_assume_gives, nameless_weaken_gives, nameless_thm_gives};
+ghost use Rattle.lt_nameless.specs.NamelessRules.{nameless_fault, nameless_assume_gives, nameless_weaken_gives, nameless_thm_gives};
 ghost use Rattle.lt_store.specs.Trees.{tree_at};
 ghost use Rattle.lt_kernel.specs.Sequents.{sequents_at, statements_at, AreWithin, NamedWithin, Gives};
 

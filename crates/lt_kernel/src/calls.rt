@@ -3,7 +3,7 @@
 //! Each names its reasons in their order. A rule with two lines looks for the first one first.
 ghost use Rattle.std.specs.Prelude.{◌≡◌, ◌<◌, length, None};
 ghost use Rattle.lt_definitions.specs.Typing.{type_fault};
-ghost use Rattle.lt_definitions.specs.NamelessRules.{nameless_fault, nameless_assume_gives, nameless_weaken_gives, nameless_refl_gives, nameless_sym_gives, nameless_trans_gives, nameless_cong_gives, nameless_abs_gives, nameless_beta_gives, nameless_eta_gives, nameless_eqmp_gives, nameless_impI_gives, nameless_mp_gives, nameless_allI_gives, nameless_allE_gives, nameless_iff_gives, nameless_inst_gives, nameless_tinst_gives, nameless_select_gives, nameless_ccontr_gives, nameless_thm_gives};
+ghost use Rattle.lt_nameless.specs.NamelessRules.{nameless_fault, nameless_assume_gives, nameless_weaken_gives, nameless_refl_gives, nameless_sym_gives, nameless_trans_gives, nameless_cong_gives, nameless_abs_gives, nameless_beta_gives, nameless_eta_gives, nameless_eqmp_gives, nameless_impI_gives, nameless_mp_gives, nameless_allI_gives, nameless_allE_gives, nameless_iff_gives, nameless_inst_gives, nameless_tinst_gives, nameless_select_gives, nameless_ccontr_gives, nameless_thm_gives};
 ghost use Rattle.lt_hol.specs.declared.line.Line.TheVariants as line;
 ghost use Rattle.lt_store.specs.Trees.{tree_at};
 ghost use Rattle.lt_kernel.specs.State.{sequents, statements, Answers};

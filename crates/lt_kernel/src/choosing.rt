@@ -1,6 +1,6 @@
 //! The axioms of choice and of classical logic: `select` and `ccontr`.
 ghost use Rattle.std.specs.Prelude.{◌≡◌, ◌<◌, length, None};
-ghost use Rattle.lt_definitions.specs.NamelessRules.{nameless_fault, nameless_select_gives, nameless_ccontr_gives};
+ghost use Rattle.lt_nameless.specs.NamelessRules.{nameless_fault, nameless_select_gives, nameless_ccontr_gives};
 ghost use Rattle.lt_store.specs.Trees.{tree_at, Extends};
 ghost use Rattle.lt_kernel.specs.Sequents.{Gives};
 

@@ -1,6 +1,6 @@
 //! The rules on equations: `refl`, `sym`, `trans`, `eqmp` and `iff`.
 ghost use Rattle.std.specs.Prelude.{◌≡◌, ◌<◌, length, None};
-ghost use Rattle.lt_definitions.specs.NamelessRules.{nameless_fault, nameless_refl_gives, nameless_sym_gives, nameless_trans_gives, nameless_eqmp_gives, nameless_iff_gives};
+ghost use Rattle.lt_nameless.specs.NamelessRules.{nameless_fault, nameless_refl_gives, nameless_sym_gives, nameless_trans_gives, nameless_eqmp_gives, nameless_iff_gives};
 ghost use Rattle.lt_store.specs.Trees.{tree_at, Extends};
 ghost use Rattle.lt_kernel.specs.Sequents.{sequents_at, AreWithin, Gives};
 

@@ -1,6 +1,6 @@
 //! The rules on implications: `impI` and `mp`.
 ghost use Rattle.std.specs.Prelude.{◌≡◌, ◌<◌, length, None};
-ghost use Rattle.lt_definitions.specs.NamelessRules.{nameless_fault, nameless_impI_gives, nameless_mp_gives};
+ghost use Rattle.lt_nameless.specs.NamelessRules.{nameless_fault, nameless_impI_gives, nameless_mp_gives};
 ghost use Rattle.lt_store.specs.Trees.{tree_at, Extends};
 ghost use Rattle.lt_kernel.specs.Sequents.{sequents_at, AreWithin, Gives};
 

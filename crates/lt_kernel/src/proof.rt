@@ -3,7 +3,7 @@ ghost use Rattle.std.specs.Prelude.{◌≡◌, ◌<◌, [], ◌∷◌, ◌++◌,
 ghost use Rattle.std.specs.Option.{option_copied, option_map};
 ghost use Rattle.lt_definitions.specs.Types.{found};
 ghost use Rattle.lt_definitions.specs.Rules.{line_at};
-ghost use Rattle.lt_definitions.specs.Nameless.{nameless, IsWhole};
+ghost use Rattle.lt_nameless.specs.Nameless.{nameless, IsWhole};
 ghost use Rattle.lt_hol.specs.Faults.{DeclaresType, DeclaresConst, cut};
 ghost use Rattle.lt_store.specs.Trees.{tree_at};
 ghost use Rattle.lt_kernel.specs.Lines.{IsGoodLine};

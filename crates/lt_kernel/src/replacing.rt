@@ -1,6 +1,6 @@
 //! The rules that replace variables: `inst` and `tinst`.
 ghost use Rattle.std.specs.Prelude.{◌≡◌, ◌<◌, ◌∷◌, [], length, None, IfOk};
-ghost use Rattle.lt_definitions.specs.NamelessRules.{nameless_fault, nameless_replaced, nameless_inst_gives, nameless_tinst_gives};
+ghost use Rattle.lt_nameless.specs.NamelessRules.{nameless_fault, nameless_replaced, nameless_inst_gives, nameless_tinst_gives};
 ghost use Rattle.lt_store.specs.Trees.{tree_at, Extends};
 ghost use Rattle.lt_kernel.specs.Sequents.{sequents_at, AreWithin, Gives};
 

@@ -4,10 +4,10 @@ use Rattle.lt_definitions.specs.Types.{TypeTree}
 use Rattle.lt_definitions.specs.Terms.{TermTree}
 use Rattle.lt_definitions.specs.Typing.{Signature, typed}
 use Rattle.lt_definitions.specs.Derivations.{fault_of}
-use Rattle.lt_definitions.specs.Nameless.{Nameless, nameless, IsWhole}
-use Rattle.lt_definitions.specs.NamelessRules.{nameless_fault}
-use Rattle.lt_definitions.proofs.WholeSteps.{typed-whole}
-use Rattle.lt_definitions.proofs.NamelessTyping.{typed-nameless}
+use Rattle.lt_nameless.specs.Nameless.{Nameless, nameless, IsWhole}
+use Rattle.lt_nameless.specs.NamelessRules.{nameless_fault}
+use Rattle.lt_nameless.proofs.ClosedSteps.{typed-whole}
+use Rattle.lt_nameless.proofs.NamelessTyping.{typed-nameless}
 
 -- a typed term has its binders
 pub term-whole : (sig : Signature) (t : TermTree) (ty : TypeTree) → typed sig [] t ≡ Ok ty → IsWhole 0 (nameless [] t)

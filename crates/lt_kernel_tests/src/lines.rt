@@ -1,7 +1,7 @@
 //! Lines from short texts, and what they give.
 ghost use Rattle.std.specs.Prelude.{◌≡◌, ◌<◌, length, None, IfOk};
 ghost use Rattle.lt_definitions.specs.Typing.{type_fault};
-ghost use Rattle.lt_definitions.specs.NamelessRules.{nameless_fault};
+ghost use Rattle.lt_nameless.specs.NamelessRules.{nameless_fault};
 ghost use Rattle.lt_store.specs.Trees.{tree_at};
 
 use crate::machine::{name, parts, plain_type, terms};

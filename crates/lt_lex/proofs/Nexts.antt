@@ -5,16 +5,16 @@ use Rattle.std.specs.Str.Lossy.{utf8_valid_len}
 use Rattle.std.proofs.lemmas.List.{take-append-drop, drop-append-le, take-append-le}
 use Rattle.std.proofs.Math.Seq.{take-append_seam}
 use Rattle.std.proofs.lemmas.Str.{utf8_valid_len_le, encodes-chars, encodes-append, chars_from_encodes, IsUtf8-drop, IsUtf8-between, IsUtf8-from_is_utf8}
-use Rattle.lt_definitions.specs.declared.lexical.TokenKind.{TokenKind}
-use Rattle.lt_definitions.specs.declared.lexical.Lexed.TheVariants.{Token, End, BadByte, BadChar}
+use Rattle.lt_texts.specs.declared.lexical.TokenKind.{TokenKind}
+use Rattle.lt_texts.specs.declared.lexical.Lexed.TheVariants.{Token, End, BadByte, BadChar}
 use Rattle.lt_definitions.specs.Characters.{behind_gap}
-use Rattle.lt_definitions.specs.Tokens.{Scanned, token_from, token_at}
-use Rattle.lt_definitions.specs.Texts.{Left, end_of, place_of, past_gap, ending, lexed, lexed_at, lexed_by, after, after_by, IsToken, spelling, spelling_by}
-use Rattle.lt_definitions.specs.declared.lexical.Lexed.{Lexed}
-use Rattle.lt_definitions.specs.Slices.{IsRead, OnNone}
-use Rattle.lt_definitions.specs.Spelling.{is_spelt}
-use Rattle.lt_definitions.proofs.Longest.{IsSound, token_sound}
-use Rattle.lt_definitions.proofs.Shorter.{token_shortens}
+use Rattle.lt_texts.specs.Tokens.{Scanned, token_from, token_at}
+use Rattle.lt_texts.specs.Texts.{Left, end_of, place_of, past_gap, ending, lexed, lexed_at, lexed_by, after, after_by, IsToken, spelling, spelling_by}
+use Rattle.lt_texts.specs.declared.lexical.Lexed.{Lexed}
+use Rattle.lt_texts.specs.Slices.{IsRead, OnNone}
+use Rattle.lt_texts.specs.Spelling.{is_spelt}
+use Rattle.lt_texts.proofs.TokenEnds.{IsSound, token_sound}
+use Rattle.lt_texts.proofs.TokenTexts.{token_shortens}
 use Rattle.lt_lex.specs.Places.{ahead_at, IsOpened, Ends, IsFound, Begins}
 
 -- what is left of a text from a place on

@@ -2,9 +2,9 @@
 use Rattle.std.specs.Prelude.{◌≡◌, ℕ, ◌<◌, ◌≤◌, false, List, ◌∷◌, Option, Some, None, true, take, drop, chars, IsCharBoundary}
 use Rattle.std.specs.Str.{is_utf8}
 use Rattle.std.specs.Str.Lossy.{utf8_valid_len}
-use Rattle.lt_definitions.specs.declared.lexical.TokenKind.{TokenKind}
+use Rattle.lt_texts.specs.declared.lexical.TokenKind.{TokenKind}
 use Rattle.lt_definitions.specs.Characters.{behind_gap}
-use Rattle.lt_definitions.specs.Tokens.{Scanned}
+use Rattle.lt_texts.specs.Tokens.{Scanned}
 
 -- the characters from a place on
 abbrev pub ahead_at : List ℕ → ℕ → List ℕ

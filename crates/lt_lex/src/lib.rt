@@ -8,10 +8,10 @@ mod scan;
 mod tests;
 
 ghost use Rattle.std.specs.Prelude.{◌≡◌, ◌<◌, length};
-ghost use Rattle.lt_definitions.specs.Slices.{IsSlice, IsRead, bytes_of, OnToken, OnNone};
-ghost use Rattle.lt_definitions.specs.Texts.{Left, left_of, lexed, after, ending, IsToken};
+ghost use Rattle.lt_texts.specs.Slices.{IsSlice, IsRead, bytes_of, OnToken, OnNone};
+ghost use Rattle.lt_texts.specs.Texts.{Left, left_of, lexed, after, ending, IsToken};
 
-pub use lt_definitions::lexical::{Lexed, Token, TokenKind};
+pub use lt_texts::lexical::{Lexed, Token, TokenKind};
 pub use number::parse_number;
 use std::marker::Model;
 
@@ -25,7 +25,7 @@ pub struct Lexer<'a> {
 
 impl<'a> Model for Lexer<'a> {
     ghost use Rattle.std.specs.Prelude.{chars, drop};
-    ghost use Rattle.lt_definitions.specs.Texts.{Left};
+    ghost use Rattle.lt_texts.specs.Texts.{Left};
     ghost use Rattle.lt_lex.specs.Places.{IsOpened};
 
     ghost Value = { Left };

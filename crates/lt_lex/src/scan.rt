@@ -4,7 +4,7 @@ ghost use Rattle.std.specs.Char.{is_ascii_digit};
 ghost use Rattle.std.specs.Str.Lossy.{utf8_valid_len};
 ghost use Rattle.unicode_ident.specs.Ident.{is_xid_continue};
 ghost use Rattle.lt_definitions.specs.Characters.{is_white, starts_name, behind_run, behind_gap};
-ghost use Rattle.lt_definitions.specs.Tokens.{token_from, variable_at, colon_at, sign_of};
+ghost use Rattle.lt_texts.specs.Tokens.{token_from, variable_at, colon_at, sign_of};
 ghost use Rattle.lt_lex.specs.Places.{ahead_at, IsFound, IsBehind, Begins};
 
 use crate::TokenKind;

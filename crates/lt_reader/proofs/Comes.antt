@@ -1,15 +1,15 @@
 -- The reader's steps, over plain states.
 use Rattle.std.proofs.Common.{◌≡◌, ℕ, ◌+◌, ◌<◌, ◌≤◌, ◌∙◌, ap, sym, refl, subst, Bool, true, false, List, [], ◌∷◌, ◌++◌, length, reverse, Option, Some, None, Result, Ok, Err, arith}
 use Rattle.std.specs.Prelude.{IfOk, IfErr, MatchOption, MatchResult, IsNone, zero, suc, ◌==◌}
-use Rattle.lt_definitions.specs.declared.lexical.Token.{Token}
-use Rattle.lt_definitions.specs.declared.lexical.TokenKind.{TokenKind}
-use Rattle.lt_definitions.specs.declared.lexical.TokenKind.TheVariants as kinds
-use Rattle.lt_definitions.specs.declared.lexical.Lexed.{Lexed}
-use Rattle.lt_definitions.specs.declared.lexical.Lexed.TheVariants.{Token as One, End, BadByte as NoText, BadChar as NoToken}
-use Rattle.lt_definitions.specs.Tokens.{Scanned, token_at}
-use Rattle.lt_definitions.specs.Texts.{Left, lexed, after, after_by, past_gap, spelling, IsToken}
-use Rattle.lt_definitions.specs.Lexemes.{Lexeme, a_variable, lexeme, IsNextLexeme, Spans}
-use Rattle.lt_definitions.proofs.Shorter.{token_shortens}
+use Rattle.lt_texts.specs.declared.lexical.Token.{Token}
+use Rattle.lt_texts.specs.declared.lexical.TokenKind.{TokenKind}
+use Rattle.lt_texts.specs.declared.lexical.TokenKind.TheVariants as kinds
+use Rattle.lt_texts.specs.declared.lexical.Lexed.{Lexed}
+use Rattle.lt_texts.specs.declared.lexical.Lexed.TheVariants.{Token as One, End, BadByte as NoText, BadChar as NoToken}
+use Rattle.lt_texts.specs.Tokens.{Scanned, token_at}
+use Rattle.lt_texts.specs.Texts.{Left, lexed, after, after_by, past_gap, spelling, IsToken}
+use Rattle.lt_texts.specs.Lexemes.{Lexeme, a_variable, lexeme, IsNextLexeme, Spans}
+use Rattle.lt_texts.proofs.TokenTexts.{token_shortens}
 use Rattle.lt_reader.specs.declared.symbol.Symbol.{Symbol}
 use Rattle.lt_reader.specs.declared.symbol.Symbol.TheVariants.{AType, Constructor, MoreTypes, ATerm, MoreTerms, AName, ANumber, One as TheOne, Semicolon, Colon, OpenBrace, Lines, Do, APart, AHeader}
 use Rattle.lt_reader.specs.declared.symbol.Instruction.{Instruction}

@@ -9,10 +9,10 @@ use borrow.Author.Tests.{ltb-true}
 use Rattle.std.proofs.lemmas.Slice.Eq.{bytes_eq-Decides}
 use Rattle.std.proofs.lemmas.Str.{encodes-chars, chars-IsAscii}
 use Rattle.unicode_ident.specs.Ident.{is_xid_continue}
-use Rattle.lt_definitions.specs.declared.lexical.TokenKind.{TokenKind}
-use Rattle.lt_definitions.specs.declared.lexical.TokenKind.TheVariants as kinds
+use Rattle.lt_texts.specs.declared.lexical.TokenKind.{TokenKind}
+use Rattle.lt_texts.specs.declared.lexical.TokenKind.TheVariants as kinds
 use Rattle.lt_definitions.specs.Characters.{is_name, starts_name}
-use Rattle.lt_definitions.specs.Spelling.{is_spelt}
+use Rattle.lt_texts.specs.Spelling.{is_spelt}
 use Rattle.lt_types.specs.Lexical.{name_goes_on, is_name as is_a_name}
 
 goes-on : (cs : List ℕ) → name_goes_on false cs ≡ list_all is_xid_continue cs

@@ -1,12 +1,12 @@
 -- Parts of a text, one behind another.
 use Rattle.std.proofs.Common.{◌≡◌, ℕ, ◌+◌, ◌<◌, ◌≤◌, ◌∙◌, ap, sym, refl, subst, true, false, List, [], ◌∷◌, ◌++◌, length, reverse, Option, Some, None, arith, append_assoc}
 use Rattle.std.proofs.lemmas.List.{reverse-reverse, length-reverse}
-use Rattle.lt_definitions.specs.declared.lexical.Lexed.{Lexed}
-use Rattle.lt_definitions.specs.declared.lexical.Lexed.TheVariants.{Token as One, End, BadByte as NoText, BadChar as NoToken}
-use Rattle.lt_definitions.specs.Texts.{Left, left_of, lexed, after, spelling}
-use Rattle.lt_definitions.specs.Lexemes.{Lexeme, lexeme, Spans}
-use Rattle.lt_definitions.specs.PlainTexts.{TypeText, alone, in_brackets, TypeTexts, no_more_types, more_types, TermText, word, applied, TermTexts, no_more_terms, more_terms, LineText, assume_line, impI_line, mp_line, thm_line, ItemText, type_text, const_text, axiom_text, lemma_text, item_lexemes, PartText, header, item, part_lexemes, parts_lexemes}
-use Rattle.lt_definitions.proofs.OneReading.{one_part, part_not_empty}
+use Rattle.lt_texts.specs.declared.lexical.Lexed.{Lexed}
+use Rattle.lt_texts.specs.declared.lexical.Lexed.TheVariants.{Token as One, End, BadByte as NoText, BadChar as NoToken}
+use Rattle.lt_texts.specs.Texts.{Left, left_of, lexed, after, spelling}
+use Rattle.lt_texts.specs.Lexemes.{Lexeme, lexeme, Spans}
+use Rattle.lt_texts.specs.PlainTexts.{TypeText, alone, in_brackets, TypeTexts, no_more_types, more_types, TermText, word, applied, TermTexts, no_more_terms, more_terms, LineText, assume_line, impI_line, mp_line, thm_line, ItemText, type_text, const_text, axiom_text, lemma_text, item_lexemes, PartText, header, item, part_lexemes, parts_lexemes}
+use Rattle.lt_texts.proofs.OneReading.{one_part, part_not_empty}
 use Rattle.lt_reader.specs.declared.symbol.Symbol.{Symbol}
 use Rattle.lt_reader.specs.declared.symbol.Symbol.TheVariants.{APart, AHeader}
 use Rattle.lt_reader.specs.declared.symbol.Instruction.{Instruction}

@@ -1,11 +1,11 @@
 -- The first place where the machine stops is the first where no text goes on.
 use Rattle.std.proofs.Common.{◌≡◌, ℕ, ◌<◌, ◌∙◌, ap, ap₂, sym, refl, subst, List, [], ◌∷◌, ◌++◌, length, Option, Some, None, append_assoc, append-nil, inl, inr, ◌⊎◌, arith, codes}
-use Rattle.lt_definitions.specs.declared.lexical.TokenKind.TheVariants as kinds
-use Rattle.lt_definitions.specs.declared.lexical.Lexed.{Lexed}
-use Rattle.lt_definitions.specs.declared.lexical.Lexed.TheVariants.{Token as One, End, BadByte as NoText, BadChar as NoToken}
-use Rattle.lt_definitions.specs.Texts.{Left, lexed, spelling}
-use Rattle.lt_definitions.specs.Lexemes.{Lexeme, a_name, a_sign, lexeme}
-use Rattle.lt_definitions.specs.PlainTexts.{TypeText, alone, in_brackets, TypeTexts, no_more_types, more_types, type_lexemes, types_lexemes, TermText, word, applied, TermTexts, no_more_terms, more_terms, term_lexemes, terms_lexemes, LineText, assume_line, impI_line, mp_line, thm_line, number, line_lexemes, lines_lexemes, ItemText, type_text, const_text, axiom_text, lemma_text, item_lexemes, PartText, header, item, part_lexemes, parts_lexemes}
+use Rattle.lt_texts.specs.declared.lexical.TokenKind.TheVariants as kinds
+use Rattle.lt_texts.specs.declared.lexical.Lexed.{Lexed}
+use Rattle.lt_texts.specs.declared.lexical.Lexed.TheVariants.{Token as One, End, BadByte as NoText, BadChar as NoToken}
+use Rattle.lt_texts.specs.Texts.{Left, lexed, spelling}
+use Rattle.lt_texts.specs.Lexemes.{Lexeme, a_name, a_sign, lexeme}
+use Rattle.lt_texts.specs.PlainTexts.{TypeText, alone, in_brackets, TypeTexts, no_more_types, more_types, type_lexemes, types_lexemes, TermText, word, applied, TermTexts, no_more_terms, more_terms, term_lexemes, terms_lexemes, LineText, assume_line, impI_line, mp_line, thm_line, number, line_lexemes, lines_lexemes, ItemText, type_text, const_text, axiom_text, lemma_text, item_lexemes, PartText, header, item, part_lexemes, parts_lexemes}
 use Rattle.lt_reader.specs.declared.symbol.Symbol.{Symbol}
 use Rattle.lt_reader.specs.declared.symbol.Symbol.TheVariants.{AType, Constructor, MoreTypes, ATerm, MoreTerms, AName, ANumber, One as TheOne, Semicolon, Colon, OpenBrace, Lines, Do, APart, AHeader}
 use Rattle.lt_reader.specs.declared.symbol.Command.TheVariants.{Header}

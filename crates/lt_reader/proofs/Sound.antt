@@ -2,10 +2,10 @@
 use Rattle.std.proofs.Common.{◌≡◌, ℕ, ◌∙◌, ap, ap₂, sym, refl, subst, Bool, true, false, List, [], ◌∷◌, ◌++◌, Option, Some, None, append_assoc, append-nil}
 use Rattle.std.specs.Prelude.{◌==◌, if◌then◌else◌}
 use Rattle.std.proofs.lemmas.Bool.{eqb-true}
-use Rattle.lt_definitions.specs.declared.lexical.TokenKind.TheVariants as kinds
+use Rattle.lt_texts.specs.declared.lexical.TokenKind.TheVariants as kinds
 use Rattle.lt_definitions.specs.Types.{Chars}
-use Rattle.lt_definitions.specs.Lexemes.{Lexeme, a_name, a_number, a_sign}
-use Rattle.lt_definitions.specs.PlainTexts.{TypeText, alone, in_brackets, TypeTexts, no_more_types, more_types, type_lexemes, types_lexemes, TermText, word, applied, TermTexts, no_more_terms, more_terms, term_lexemes, terms_lexemes, LineText, assume_line, impI_line, mp_line, thm_line, number, lines_lexemes, type_text, const_text, axiom_text, lemma_text, PartText, header, item, part_lexemes}
+use Rattle.lt_texts.specs.Lexemes.{Lexeme, a_name, a_number, a_sign}
+use Rattle.lt_texts.specs.PlainTexts.{TypeText, alone, in_brackets, TypeTexts, no_more_types, more_types, type_lexemes, types_lexemes, TermText, word, applied, TermTexts, no_more_terms, more_terms, term_lexemes, terms_lexemes, LineText, assume_line, impI_line, mp_line, thm_line, number, lines_lexemes, type_text, const_text, axiom_text, lemma_text, PartText, header, item, part_lexemes}
 use Rattle.lt_reader.specs.declared.symbol.Command.{Command}
 use Rattle.lt_reader.specs.declared.symbol.Command.TheVariants.{Header, TypeItem, ConstItem, AxiomItem, LemmaItem}
 use Rattle.lt_reader.specs.declared.symbol.Rule.{Rule}

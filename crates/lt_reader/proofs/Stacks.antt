@@ -2,7 +2,7 @@
 use Rattle.std.proofs.Common.{◌≡◌, ℕ, suc, ◌+◌, ◌-◌, ◌<◌, ◌∙◌, ap, ap₂, sym, refl, subst, Bool, true, false, List, [], ◌∷◌, ◌++◌, length, reverse, get_or, drop, Option, Some, None, append_assoc, append-nil, arith}
 use Rattle.std.proofs.Math.Seq.{drop-cons}
 use Rattle.std.proofs.lemmas.List.{reverse-append}
-use Rattle.lt_definitions.specs.Lexemes.{Lexeme}
+use Rattle.lt_texts.specs.Lexemes.{Lexeme}
 use Rattle.lt_reader.specs.declared.symbol.Action.{Action}
 use Rattle.lt_reader.specs.declared.symbol.Instruction.{Instruction}
 use Rattle.lt_reader.specs.declared.symbol.Instruction.TheVariants.{Act}

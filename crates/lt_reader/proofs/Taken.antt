@@ -1,8 +1,8 @@
 -- The machine takes each writing whole.
 use Rattle.std.proofs.Common.{◌≡◌, ◌∙◌, ap₂, refl, List, [], ◌∷◌, ◌++◌, Option, Some, None, append_assoc, append-nil, codes}
-use Rattle.lt_definitions.specs.declared.lexical.TokenKind.TheVariants as kinds
-use Rattle.lt_definitions.specs.Lexemes.{Lexeme, a_name, a_sign}
-use Rattle.lt_definitions.specs.PlainTexts.{TypeText, alone, in_brackets, TypeTexts, no_more_types, more_types, type_lexemes, types_lexemes, TermText, word, applied, TermTexts, no_more_terms, more_terms, term_lexemes, terms_lexemes, LineText, assume_line, impI_line, mp_line, thm_line, number, lines_lexemes, ItemText, type_text, const_text, axiom_text, lemma_text, item_lexemes, PartText, header, item, part_lexemes}
+use Rattle.lt_texts.specs.declared.lexical.TokenKind.TheVariants as kinds
+use Rattle.lt_texts.specs.Lexemes.{Lexeme, a_name, a_sign}
+use Rattle.lt_texts.specs.PlainTexts.{TypeText, alone, in_brackets, TypeTexts, no_more_types, more_types, type_lexemes, types_lexemes, TermText, word, applied, TermTexts, no_more_terms, more_terms, term_lexemes, terms_lexemes, LineText, assume_line, impI_line, mp_line, thm_line, number, lines_lexemes, ItemText, type_text, const_text, axiom_text, lemma_text, item_lexemes, PartText, header, item, part_lexemes}
 use Rattle.lt_reader.specs.declared.symbol.Command.TheVariants.{Header, ConstItem, AxiomItem, LemmaItem}
 use Rattle.lt_reader.specs.declared.symbol.Rule.TheVariants.{Assume, ImpI, Mp, Thm}
 use Rattle.lt_reader.specs.declared.symbol.Action.{Action}

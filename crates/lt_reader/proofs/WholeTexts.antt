@@ -1,12 +1,12 @@
 -- What the reader's answers say of the whole text.
 use Rattle.std.proofs.Common.{◌≡◌, ℕ, ◌∙◌, ap, sym, refl, subst, List, [], ◌∷◌, ◌++◌, append_assoc, append-nil}
 use Rattle.lt_definitions.specs.Items.{Item}
-use Rattle.lt_definitions.specs.declared.lexical.Lexed.{Lexed}
-use Rattle.lt_definitions.specs.declared.lexical.Lexed.TheVariants.{Token as One, End, BadByte as NoText, BadChar as NoToken}
-use Rattle.lt_definitions.specs.Texts.{Left, left_of, lexed, after, spelling}
-use Rattle.lt_definitions.specs.Lexemes.{Lexeme, lexeme, Spans}
-use Rattle.lt_definitions.specs.PlainTexts.{ItemText, item_of_text, PartText, header, item, part_lexemes, parts_lexemes, items_of, HasItems}
-use Rattle.lt_definitions.proofs.OneReading.{one_next, no_next}
+use Rattle.lt_texts.specs.declared.lexical.Lexed.{Lexed}
+use Rattle.lt_texts.specs.declared.lexical.Lexed.TheVariants.{Token as One, End, BadByte as NoText, BadChar as NoToken}
+use Rattle.lt_texts.specs.Texts.{Left, left_of, lexed, after, spelling}
+use Rattle.lt_texts.specs.Lexemes.{Lexeme, lexeme, Spans}
+use Rattle.lt_texts.specs.PlainTexts.{ItemText, item_of_text, PartText, header, item, part_lexemes, parts_lexemes, items_of, HasItems}
+use Rattle.lt_texts.proofs.OneReading.{one_next, no_next}
 use Rattle.lt_reader.specs.declared.unread.Unread.{Unread}
 use Rattle.lt_reader.specs.declared.unread.Unread.TheVariants.{Syntax, BadByte, BadChar, Memory}
 use Rattle.lt_reader.specs.Reading.{IsWhole, IsRest, IsWrong, FailsAt, Fails, AreHeaders, NextText, AtEnd, Begins, HasNoItems, IsOfText}

@@ -1,7 +1,7 @@
 -- What a lexeme makes of a stack of expectations, and what is noted down on the way, both the newest first.
 use Rattle.std.specs.Prelude.{◌≡◌, ◌==◌, List, [], ◌∷◌, ◌++◌, Option, Some, None, Bool, true, false, if◌then◌else◌}
-use Rattle.lt_definitions.specs.declared.lexical.TokenKind.TheVariants as kinds
-use Rattle.lt_definitions.specs.Lexemes.{Lexeme, a_name, a_number, a_sign}
+use Rattle.lt_texts.specs.declared.lexical.TokenKind.TheVariants as kinds
+use Rattle.lt_texts.specs.Lexemes.{Lexeme, a_name, a_number, a_sign}
 use Rattle.lt_reader.specs.declared.symbol.Command.{Command}
 use Rattle.lt_reader.specs.declared.symbol.Command.TheVariants.{Header}
 use Rattle.lt_reader.specs.declared.symbol.Rule.{Rule}

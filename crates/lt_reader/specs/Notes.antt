@@ -1,6 +1,6 @@
 -- What is noted down of each writing, the newest first.
 use Rattle.std.specs.Prelude.{List, [], ◌∷◌, Bool, true, false}
-use Rattle.lt_definitions.specs.PlainTexts.{TypeText, alone, in_brackets, TypeTexts, no_more_types, more_types, TermText, word, applied, TermTexts, no_more_terms, more_terms, LineText, assume_line, impI_line, mp_line, thm_line, ItemText, type_text, const_text, axiom_text, lemma_text, PartText, header, item}
+use Rattle.lt_texts.specs.PlainTexts.{TypeText, alone, in_brackets, TypeTexts, no_more_types, more_types, TermText, word, applied, TermTexts, no_more_terms, more_terms, LineText, assume_line, impI_line, mp_line, thm_line, ItemText, type_text, const_text, axiom_text, lemma_text, PartText, header, item}
 use Rattle.lt_reader.specs.declared.symbol.Command.TheVariants.{Header, TypeItem, ConstItem, AxiomItem, LemmaItem}
 use Rattle.lt_reader.specs.declared.symbol.Rule.TheVariants.{Assume, ImpI, Mp, Thm}
 use Rattle.lt_reader.specs.declared.symbol.Action.TheVariants.{KeepType, KeepTerm, MakeLine}

@@ -1,11 +1,11 @@
 -- What a reader makes of a text, and where it stops: the first place where no text of the form goes on so.
 use Rattle.std.specs.Prelude.{◌≡◌, ℕ, ◌<◌, List, [], ◌∷◌, ◌++◌, length, reverse, Some, None}
-use Rattle.lt_definitions.specs.declared.lexical.Lexed.{Lexed}
-use Rattle.lt_definitions.specs.declared.lexical.Lexed.TheVariants.{Token as One, End, BadByte as NoText, BadChar as NoToken}
+use Rattle.lt_texts.specs.declared.lexical.Lexed.{Lexed}
+use Rattle.lt_texts.specs.declared.lexical.Lexed.TheVariants.{Token as One, End, BadByte as NoText, BadChar as NoToken}
 use Rattle.lt_definitions.specs.Items.{Item}
-use Rattle.lt_definitions.specs.Texts.{Left, left_of, lexed, spelling}
-use Rattle.lt_definitions.specs.Lexemes.{Lexeme, lexeme, Spans}
-use Rattle.lt_definitions.specs.PlainTexts.{ItemText, item_lexemes, PartText, header, parts_lexemes, items_of, HasItems}
+use Rattle.lt_texts.specs.Texts.{Left, left_of, lexed, spelling}
+use Rattle.lt_texts.specs.Lexemes.{Lexeme, lexeme, Spans}
+use Rattle.lt_texts.specs.PlainTexts.{ItemText, item_lexemes, PartText, header, parts_lexemes, items_of, HasItems}
 use Rattle.lt_reader.specs.declared.symbol.Symbol.{Symbol}
 use Rattle.lt_reader.specs.declared.symbol.Instruction.{Instruction}
 use Rattle.lt_reader.specs.declared.unread.Unread.{Unread}

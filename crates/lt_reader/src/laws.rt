@@ -1,9 +1,9 @@
 //! What the reader's answers say of the whole text. Each function does nothing: its contract is the law.
 ghost use Rattle.std.specs.Prelude.{◌≡◌, ℕ, List, [], ◌∷◌, ◌++◌};
 ghost use Rattle.lt_definitions.specs.Items.{Item};
-ghost use Rattle.lt_definitions.specs.Lexemes.{Spans};
-ghost use Rattle.lt_definitions.specs.PlainTexts.{ItemText, item_of_text, header, part_lexemes, HasItems};
-ghost use Rattle.lt_definitions.specs.Texts.{Left, left_of};
+ghost use Rattle.lt_texts.specs.Lexemes.{Spans};
+ghost use Rattle.lt_texts.specs.PlainTexts.{ItemText, item_of_text, header, part_lexemes, HasItems};
+ghost use Rattle.lt_texts.specs.Texts.{Left, left_of};
 ghost use Rattle.lt_reader.specs.declared.unread.Unread.{Unread};
 ghost use Rattle.lt_reader.specs.Reading.{IsWhole, IsRest, Fails, NextText, AtEnd, Begins, HasNoItems, IsOfText};
 

@@ -1,8 +1,8 @@
 //! A plain text that is read an item at a time.
 ghost use Rattle.std.specs.Prelude.{◌≡◌, [], ◌∷◌, IfOk, IfErr, MatchOption, reverse};
-ghost use Rattle.lt_definitions.specs.Lexemes.{Spans};
-ghost use Rattle.lt_definitions.specs.PlainTexts.{part_lexemes, header};
-ghost use Rattle.lt_definitions.specs.Texts.{left_of};
+ghost use Rattle.lt_texts.specs.Lexemes.{Spans};
+ghost use Rattle.lt_texts.specs.PlainTexts.{part_lexemes, header};
+ghost use Rattle.lt_texts.specs.Texts.{left_of};
 ghost use Rattle.lt_reader.specs.Reading.{IsWhole, IsRest, Fails, NextNotes, AtEnd};
 ghost use Rattle.lt_reader.specs.Notes.{is_header};
 
@@ -21,7 +21,7 @@ pub struct Reader<'a> {
 }
 
 impl<'a> Model for Reader<'a> {
-    ghost use Rattle.lt_definitions.specs.Texts.{Left};
+    ghost use Rattle.lt_texts.specs.Texts.{Left};
 
     ghost Value = { Left };
 

@@ -1,18 +1,18 @@
 //! Reads from one symbol on until nothing is expected.
 ghost use Rattle.std.specs.Prelude.{◌≡◌, ◌<◌, ◌≢◌, IfOk, IfErr, IsNone, MatchOption, MatchResult, true, false, length, chars};
-ghost use Rattle.lt_definitions.specs.declared.lexical.TokenKind.TheVariants as kinds;
-ghost use Rattle.lt_definitions.specs.declared.lexical.Lexed.TheVariants as found;
-ghost use Rattle.lt_definitions.specs.Lexemes.{lexeme};
-ghost use Rattle.lt_definitions.specs.Slices.{IsSlice, bytes_of};
-ghost use Rattle.lt_definitions.specs.Spelling.{is_spelt};
-ghost use Rattle.lt_definitions.specs.Texts.{lexed};
+ghost use Rattle.lt_texts.specs.declared.lexical.TokenKind.TheVariants as kinds;
+ghost use Rattle.lt_texts.specs.declared.lexical.Lexed.TheVariants as found;
+ghost use Rattle.lt_texts.specs.Lexemes.{lexeme};
+ghost use Rattle.lt_texts.specs.Slices.{IsSlice, bytes_of};
+ghost use Rattle.lt_texts.specs.Spelling.{is_spelt};
+ghost use Rattle.lt_texts.specs.Texts.{lexed};
 ghost use Rattle.lt_reader.specs.Machine.{meant};
 ghost use Rattle.lt_reader.specs.Reading.{Reads, IsStopped};
 
 use crate::symbol::{Instruction, Symbol, Word};
 use crate::taking::take;
 use crate::unread::Unread;
-use lt_definitions::lexical::{Lexed, Token, TokenKind};
+use lt_texts::lexical::{Lexed, Token, TokenKind};
 use lt_lex::{Lexer, parse_number};
 use lt_types::{Memory, Name};
 use std::alloc::Global;

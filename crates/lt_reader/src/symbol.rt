@@ -1,5 +1,5 @@
 //! What a reader expects, what it reads, and what it notes down of that.
-use lt_definitions::lexical::TokenKind;
+use lt_texts::lexical::TokenKind;
 use lt_types::Name;
 
 /// What stands at the head of a part of a text.

@@ -4,7 +4,7 @@ ghost use Rattle.lt_reader.specs.Machine.{meant, step, step_on, step_type, step_
 
 use crate::symbol::{Command, Instruction, Symbol, Word};
 use crate::table::{command_of, row, rule_of, rule_row};
-use lt_definitions::lexical::TokenKind;
+use lt_texts::lexical::TokenKind;
 use lt_types::Memory;
 
 /// Takes a word where the newest symbol is expected, and tells whether it was taken. What is to be done first is done.

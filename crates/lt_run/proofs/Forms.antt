@@ -3,8 +3,8 @@ use Rattle.std.proofs.Common.{◌≡◌, Bool, true, false, List, [], ◌∷◌,
 use Rattle.std.specs.Prelude.{IfOk}
 use Rattle.std.specs.Bool.{MatchBool}
 use Rattle.lt_definitions.specs.Items.{Item}
-use Rattle.lt_definitions.specs.Texts.{Left, left_of}
-use Rattle.lt_definitions.specs.PlainTexts.{item_of_text}
+use Rattle.lt_texts.specs.Texts.{Left, left_of}
+use Rattle.lt_texts.specs.PlainTexts.{item_of_text}
 use Rattle.lt_reader.specs.declared.symbol.Instruction.{Instruction}
 use Rattle.lt_reader.specs.declared.unread.Unread.{Unread}
 use Rattle.lt_reader.specs.Reading.{IsWhole, IsRest, Fails, NextNotes, Begins, HasNoItems, IsOfText}

@@ -3,10 +3,10 @@ use Rattle.std.proofs.Common.{ℕ, zero, suc, ◌+◌, ◌*◌, ◌-◌, ◌<◌
 use Rattle.std.specs.Str.{chars, chars_after, continuation_len, lead_bits}
 use Rattle.std.specs.Str.Lossy.{utf8_valid_len}
 use Rattle.lt_definitions.specs.Items.{Item}
-use Rattle.lt_definitions.specs.Texts.{Left, left_of, after, IsToken}
-use Rattle.lt_definitions.specs.Lexemes.{Lexeme, Spans}
-use Rattle.lt_definitions.specs.PlainTexts.{ItemText, type_text, const_text, axiom_text, lemma_text, item_lexemes, PartText, header, item, part_lexemes, parts_lexemes, items_of}
-use Rattle.lt_definitions.proofs.Shorter.{token_shortens}
+use Rattle.lt_texts.specs.Texts.{Left, left_of, after, IsToken}
+use Rattle.lt_texts.specs.Lexemes.{Lexeme, Spans}
+use Rattle.lt_texts.specs.PlainTexts.{ItemText, type_text, const_text, axiom_text, lemma_text, item_lexemes, PartText, header, item, part_lexemes, parts_lexemes, items_of}
+use Rattle.lt_texts.proofs.TokenTexts.{token_shortens}
 use Rattle.lt_reader.specs.Reading.{NextText, Begins}
 use Rattle.lt_reader.proofs.Places.{part-split}
 

@@ -2,15 +2,15 @@
 use Rattle.std.proofs.Common.{◌≡◌, ℕ, ◌+◌, ◌<◌, ◌≤◌, true, List, [], ◌∷◌, ◌++◌, length, refl, sym, ap, ◌∙◌, subst, arith, Option, None, append_assoc}
 use Rattle.std.specs.Prelude.{IsSome, Result, Ok, Err, IfOk, IfErr, OnErr, encode_utf8_all, count_by}
 use Rattle.std.proofs.lemmas.List.Sums.{count_by-le-length}
-use Rattle.lt_definitions.specs.declared.walks.Ending.{Ending}
-use Rattle.lt_definitions.specs.declared.walks.Ending.TheVariants.{Accepted, NotBuilt, AtItem}
+use Rattle.lt_texts.specs.declared.walks.Ending.{Ending}
+use Rattle.lt_texts.specs.declared.walks.Ending.TheVariants.{Accepted, NotBuilt, AtItem}
 use Rattle.lt_definitions.specs.Items.{Item, Context, empty, with_item, context_of}
 use Rattle.lt_definitions.specs.Theory.{refusal, IsPlainTheory}
 use Rattle.lt_definitions.specs.Printing.{is_axiom, is_lemma, summary_line, count_line}
-use Rattle.lt_definitions.specs.Lexemes.{Spans}
-use Rattle.lt_definitions.specs.PlainTexts.{ItemText, type_text, const_text, axiom_text, lemma_text, item_of_text, header, part_lexemes, HasItems}
-use Rattle.lt_definitions.specs.Texts.{Left, left_of}
-use Rattle.lt_definitions.specs.Walks.{plain_limit, reported}
+use Rattle.lt_texts.specs.Lexemes.{Spans}
+use Rattle.lt_texts.specs.PlainTexts.{ItemText, type_text, const_text, axiom_text, lemma_text, item_of_text, header, part_lexemes, HasItems}
+use Rattle.lt_texts.specs.Texts.{Left, left_of}
+use Rattle.lt_texts.specs.Walks.{plain_limit, reported}
 use Rattle.lt_io.specs.Written.{Grew, GrewByFront}
 use Rattle.lt_io.proofs.WriteLemmas.{Grew-append}
 use Rattle.lt_items.specs.NextItem.{NextItem}

@@ -2,10 +2,10 @@
 use Rattle.std.proofs.Common.{◌≡◌, ◌⊎◌, inl, inr, ℕ, zero, suc, ◌<◌, List, [], ◌∷◌, ◌++◌, length, Option, Some, None, refl, sym, ◌≢◌, ◌∙◌, ap, subst, arith, length-append}
 use Rattle.std.specs.Prelude.{IsSome}
 use Rattle.lt_definitions.specs.Items.{Item}
-use Rattle.lt_definitions.proofs.OneEnding.{one_ending}
-use Rattle.lt_definitions.specs.declared.walks.Ending.{Ending}
-use Rattle.lt_definitions.specs.declared.walks.Ending.TheVariants.{Accepted, TooLong}
-use Rattle.lt_definitions.specs.Walks.{plain_limit, Walk, reported, error_line}
+use Rattle.lt_texts.proofs.OneEnding.{one_ending}
+use Rattle.lt_texts.specs.declared.walks.Ending.{Ending}
+use Rattle.lt_texts.specs.declared.walks.Ending.TheVariants.{Accepted, TooLong}
+use Rattle.lt_texts.specs.Walks.{plain_limit, Walk, reported, error_line}
 use Rattle.lt_io.specs.Files.{Files, HoldsFile, StaysSame, StaysTold}
 use Rattle.lt_io.specs.Written.{Grew}
 use Rattle.lt_run.specs.Reports.{HasText, IsTextOf, IsReported, IsCutShort, Ends, Stops}

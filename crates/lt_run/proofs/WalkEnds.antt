@@ -3,13 +3,13 @@ use Rattle.std.proofs.Common.{◌≡◌, ℕ, ◌+◌, ◌≤◌, List, [], ◌�
 use Rattle.std.specs.Prelude.{IsSome, encode_utf8_all}
 use Rattle.std.proofs.lemmas.Str.{encodes-append}
 use Rattle.std.proofs.lemmas.Grind.{flat_map-append}
-use Rattle.lt_definitions.specs.declared.walks.Ending.{Ending}
-use Rattle.lt_definitions.specs.declared.walks.Ending.TheVariants.{Accepted, NotBuilt, AtItem}
+use Rattle.lt_texts.specs.declared.walks.Ending.{Ending}
+use Rattle.lt_texts.specs.declared.walks.Ending.TheVariants.{Accepted, NotBuilt, AtItem}
 use Rattle.lt_definitions.specs.Items.{Item, Context, empty, with_item, context_of}
 use Rattle.lt_definitions.specs.Theory.{Refusal, refusal, AreValid, IsPlainTheory}
 use Rattle.lt_definitions.specs.Printing.{summary_line, summary_lines, count_line}
-use Rattle.lt_definitions.specs.PlainTexts.{HasItems}
-use Rattle.lt_definitions.specs.Walks.{plain_limit, Walk, reported}
+use Rattle.lt_texts.specs.PlainTexts.{HasItems}
+use Rattle.lt_texts.specs.Walks.{plain_limit, Walk, reported}
 
 pub context_more : (ctx : Context) (items : List Item) (i : Item) → context_of ctx (items ++ i ∷ []) ≡ with_item (context_of ctx items) i
 context_more ctx [] i = refl

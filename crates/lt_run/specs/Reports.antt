@@ -1,8 +1,8 @@
 -- What the sinks got.
 use Rattle.std.specs.Prelude.{◌≡◌, ℕ, List, [], ◌∷◌, ◌++◌, codes, Option, Some}
 use Rattle.lt_definitions.specs.Items.{Item}
-use Rattle.lt_definitions.specs.Walks.{joined, Walk, reported, error_line}
-use Rattle.lt_definitions.specs.declared.walks.Ending.{Ending}
+use Rattle.lt_texts.specs.Walks.{joined, Walk, reported, error_line}
+use Rattle.lt_texts.specs.declared.walks.Ending.{Ending}
 use Rattle.lt_io.specs.Files.{Files, HoldsFile}
 use Rattle.lt_io.specs.Written.{Grew, GrewByFront}
 

@@ -1,8 +1,8 @@
 -- Texts of the form, and what is left of them.
 use Rattle.std.specs.Prelude.{ℕ, List}
 use Rattle.lt_definitions.specs.Items.{Item}
-use Rattle.lt_definitions.specs.Texts.{Left}
-use Rattle.lt_definitions.specs.PlainTexts.{HasItems}
+use Rattle.lt_texts.specs.Texts.{Left}
+use Rattle.lt_texts.specs.PlainTexts.{HasItems}
 use Rattle.lt_reader.specs.Reading.{Begins}
 
 -- the text is of the form

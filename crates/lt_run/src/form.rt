@@ -1,9 +1,9 @@
 //! Whether a text is of the form, and the items of one that is.
 ghost use Rattle.std.specs.Prelude.{◌≡◌, [], false, IfOk, MatchOption};
 ghost use Rattle.std.specs.Bool.{MatchBool};
-ghost use Rattle.lt_definitions.specs.Lexemes.{Spans};
-ghost use Rattle.lt_definitions.specs.PlainTexts.{header, part_lexemes};
-ghost use Rattle.lt_definitions.specs.Texts.{left_of};
+ghost use Rattle.lt_texts.specs.Lexemes.{Spans};
+ghost use Rattle.lt_texts.specs.PlainTexts.{header, part_lexemes};
+ghost use Rattle.lt_texts.specs.Texts.{left_of};
 ghost use Rattle.lt_hol.specs.Items.{item_of};
 ghost use Rattle.lt_items.specs.NextItem.{NextItem};
 ghost use Rattle.lt_reader.specs.Reading.{AtEnd, HasNoItems, IsOfText};

@@ -1,13 +1,13 @@
 //! The lines on the second sink.
 ghost use Rattle.std.specs.Prelude.{◌≡◌, IfOk, string_bytes};
-ghost use Rattle.lt_definitions.specs.Walks.{error_line};
+ghost use Rattle.lt_texts.specs.Walks.{error_line};
 ghost use Rattle.lt_run.specs.Reports.{read_fault_line};
 
-use lt_definitions::walks::Ending;
+use lt_texts::walks::Ending;
 use std::alloc::{AllocError, Global};
 
 /// The line that says how a walk ended about a file; it is empty where the walk accepted all.
-#[tactic(auto, unfolding(lt_definitions::specs::Walks::error_line))]
+#[tactic(auto, unfolding(lt_texts::specs::Walks::error_line))]
 pub(crate) fn ending_text(alloc: Global, file: &str, ending: Ending) -> Result<String, AllocError>
     ensures { IfOk result (λ text. string_bytes text ≡ error_line file.now ending) }
 {

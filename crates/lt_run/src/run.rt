@@ -1,7 +1,7 @@
 //! The top call.
 ghost use Rattle.std.specs.Prelude.{◌≡◌, ◌≢◌, ◌≤◌, ◌<◌, ◌⊎◌, [], List, ℕ, length, IfOk, IsErrOf};
-ghost use Rattle.lt_definitions.specs.declared.walks.Ending.{Ending};
-ghost use Rattle.lt_definitions.specs.Walks.{plain_limit, error_line};
+ghost use Rattle.lt_texts.specs.declared.walks.Ending.{Ending};
+ghost use Rattle.lt_texts.specs.Walks.{plain_limit, error_line};
 ghost use Rattle.lt_io.specs.Causes.{Rose};
 ghost use Rattle.lt_io.specs.Files.{StaysSame, StaysTold};
 ghost use Rattle.lt_io.specs.Written.{Grew};
@@ -11,7 +11,7 @@ ghost use Rattle.lt_run.specs.Words.{AreWords, usage};
 use crate::report::{ending_text, read_fault_text};
 use crate::walk::{Cut, walk_text};
 use crate::words::Text;
-use lt_definitions::walks::Ending;
+use lt_texts::walks::Ending;
 use lt_io::{Library, ReadFault, Sink, read_all, write_all};
 use std::alloc::Global;
 

@@ -1,8 +1,8 @@
 //! The top call over a library and sinks that never fail.
 ghost use Rattle.std.specs.Prelude.{◌≡◌, ◌≢◌, ◌⊎◌, [], List, ℕ};
-ghost use Rattle.lt_definitions.specs.declared.walks.Ending.{Ending};
+ghost use Rattle.lt_texts.specs.declared.walks.Ending.{Ending};
 ghost use Rattle.lt_definitions.specs.Items.{Item};
-ghost use Rattle.lt_definitions.specs.Walks.{Walk};
+ghost use Rattle.lt_texts.specs.Walks.{Walk};
 ghost use Rattle.lt_io.specs.Files.{StaysSame, StaysTold};
 ghost use Rattle.lt_io.specs.InMemory.{told_files, told_bytes};
 ghost use Rattle.lt_io.specs.Written.{Grew};

@@ -4,7 +4,7 @@ ghost use Rattle.std.specs.Bool.{MatchBool};
 ghost use Rattle.lt_definitions.specs.Items.{Context, empty, with_item};
 ghost use Rattle.lt_definitions.specs.Theory.{refusal};
 ghost use Rattle.lt_definitions.specs.Printing.{summary_line};
-ghost use Rattle.lt_definitions.specs.Walks.{plain_limit};
+ghost use Rattle.lt_texts.specs.Walks.{plain_limit};
 ghost use Rattle.lt_hol.specs.Items.{item_of};
 ghost use Rattle.lt_io.specs.Causes.{Rose};
 ghost use Rattle.lt_io.specs.Written.{Grew, GrewByFront};
@@ -16,7 +16,7 @@ ghost use Rattle.lt_run.specs.Walking.{IsOfForm};
 
 use crate::counts::Counts;
 use crate::form::{is_of_form, open_text, take_item};
-use lt_definitions::walks::Ending;
+use lt_texts::walks::Ending;
 use lt_hol::Item;
 use lt_io::{Sink, write_all};
 use lt_syntax::{count_line, summary_line};

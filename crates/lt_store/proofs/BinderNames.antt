@@ -12,9 +12,9 @@ use Rattle.ucd_table.specs.Rows.{in_ranges}
 use Rattle.ucd_derived.specs.XidStartRanges.{xid_start_ranges}
 use Rattle.ucd_derived.specs.XidContinueRanges.{xid_continue_ranges}
 use Rattle.lt_types.specs.Lexical.{is_name, name_goes_on, may_stand}
-use Rattle.lt_definitions.specs.Nameless.{nameless_bound, deeper, nameless_name}
-use Rattle.lt_definitions.proofs.Tests.{true-name, false-name, both-true, true-both}
-use Rattle.lt_definitions.proofs.Alphas.{name-hit, name-miss}
+use Rattle.lt_nameless.specs.Nameless.{nameless_bound, deeper, nameless_name}
+use Rattle.lt_definitions.proofs.SameNames.{true-name, false-name, both-true, true-both}
+use Rattle.lt_nameless.proofs.Alphas.{name-hit, name-miss}
 use Rattle.lt_store.specs.NameTasks.{binder_name, binder_names}
 
 x-starts : may_stand true 120 ≡ true

@@ -5,8 +5,8 @@ use Rattle.std.proofs.lemmas.Option.{slice_get-get_or}
 use Rattle.std.proofs.lemmas.Bool.Decides.{nat_tests}
 use Rattle.std.proofs.lemmas.Grind.{common_steps}
 use Rattle.lt_definitions.specs.Types.{TypeTree, same_name, same_type, same_types, row}
-use Rattle.lt_definitions.proofs.Tests.{both-true, true-both, name-true, true-name, type-true, true-type, row-true, true-row}
-use Rattle.lt_definitions.specs.Nameless.{Nameless, nameless_free, nameless_bound, nameless_constant, nameless_abstraction}
+use Rattle.lt_definitions.proofs.SameNames.{both-true, true-both, name-true, true-name, type-true, true-type, row-true, true-row}
+use Rattle.lt_nameless.specs.Nameless.{Nameless, nameless_free, nameless_bound, nameless_constant, nameless_abstraction}
 use Rattle.lt_store.specs.declared.node.Node.{Node}
 use Rattle.lt_store.specs.declared.node.Node.TheVariants.{Free, Bound, Const, App, Lam}
 use Rattle.lt_store.specs.Trees.{tree_at, node_tree, tree_size, IsBelow, IsGrounded}

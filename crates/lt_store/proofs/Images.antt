@@ -1,8 +1,8 @@
 -- What passes make, node by node, and as a store grows.
 use Rattle.std.proofs.Common.{◌≡◌, ℕ, suc, ◌+◌, ◌<◌, ◌≤◌, List, length, Bool, true, false, ◌||◌, refl, ap, sym, ◌∙◌, arith, ◌⊎◌, inl, inr, Some, nat_eq}
 use Rattle.lt_definitions.specs.Types.{TypeTree}
-use Rattle.lt_definitions.specs.Nameless.{Nameless, nameless_application, nameless_abstraction}
-use Rattle.lt_definitions.specs.NamelessRules.{instance_at, abstracted, nameless_replaced, has_index}
+use Rattle.lt_nameless.specs.Nameless.{Nameless, nameless_application, nameless_abstraction}
+use Rattle.lt_nameless.specs.NamelessRules.{instance_at, abstracted, nameless_replaced, has_index}
 use Rattle.lt_store.specs.declared.node.Node.{Node}
 use Rattle.lt_store.specs.declared.change.Change.{Change}
 use Rattle.lt_store.specs.declared.change.Change.TheVariants.{Open, Close, Replace, Types}

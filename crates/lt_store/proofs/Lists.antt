@@ -3,7 +3,7 @@ use Rattle.std.proofs.Common.{◌≡◌, ℕ, suc, ◌+◌, ◌<◌, ◌≤◌, 
 use Rattle.std.proofs.lemmas.List.{take_more, map-append}
 use Rattle.std.proofs.lemmas.List.Elements.{All-append, All-cons, All-nil}
 use Rattle.std.specs.List.{list_any}
-use Rattle.lt_definitions.specs.Nameless.{Nameless}
+use Rattle.lt_nameless.specs.Nameless.{Nameless}
 use Rattle.lt_store.specs.declared.node.Node.{Node}
 use Rattle.lt_store.specs.declared.change.Change.{Change}
 use Rattle.lt_store.specs.declared.change.Sought.{Sought}

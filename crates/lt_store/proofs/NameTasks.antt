@@ -2,7 +2,7 @@
 use Rattle.std.proofs.Common.{◌≡◌, ℕ, suc, ◌+◌, ◌-◌, ◌^◌, ◌<◌, ◌≤◌, List, [], ◌∷◌, length, sym, ◌∙◌, ap, subst, arith}
 use Rattle.lt_definitions.specs.Types.{Chars, TypeTree}
 use Rattle.lt_definitions.specs.Terms.{TermTree, bound_name, abstraction}
-use Rattle.lt_definitions.specs.Nameless.{Nameless, nameless_bound, nameless_abstraction, nameless_name, nameless, IsWhole}
+use Rattle.lt_nameless.specs.Nameless.{Nameless, nameless_bound, nameless_abstraction, nameless_name, nameless, IsWhole}
 use Rattle.lt_terms.specs.Layout.{applied, abstracted}
 use Rattle.lt_store.specs.declared.node.Node.{Node}
 use Rattle.lt_store.specs.declared.naming.NameTask.{NameTask}

@@ -3,9 +3,9 @@ use Rattle.std.proofs.Common.{◌≡◌, Bool, true, false, refl, ap, sym, subst
 use Rattle.std.proofs.lemmas.Bool.Decides.{nat_tests}
 use Rattle.std.proofs.lemmas.Grind.{common_steps}
 use Rattle.lt_definitions.specs.Types.{same_name, same_type, same_types, row}
-use Rattle.lt_definitions.proofs.Tests.{true-false, both-true, true-both, name-true, true-name, type-true, true-type, row-true, true-row}
-use Rattle.lt_definitions.specs.Nameless.{Nameless, nameless_free, nameless_bound, nameless_loose, nameless_constant, nameless_application, nameless_abstraction}
-use Rattle.lt_definitions.specs.NamelessRules.{same_nameless}
+use Rattle.lt_definitions.proofs.SameNames.{true-false, both-true, true-both, name-true, true-name, type-true, true-type, row-true, true-row}
+use Rattle.lt_nameless.specs.Nameless.{Nameless, nameless_free, nameless_bound, nameless_loose, nameless_constant, nameless_application, nameless_abstraction}
+use Rattle.lt_nameless.specs.NamelessRules.{same_nameless}
 
 -- two tests of which each follows from the other are one
 pub one_test : (a b : Bool) → (a ≡ true → b ≡ true) → (b ≡ true → a ≡ true) → a ≡ b

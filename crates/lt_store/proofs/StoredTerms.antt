@@ -5,9 +5,9 @@ use Rattle.std.proofs.Math.Seq.{drop-cons, get_or-append_seam}
 use Rattle.std.proofs.Math.ListN.{drop_of_length-le}
 use Rattle.lt_definitions.specs.Types.{Chars, same_name, TypeTree}
 use Rattle.lt_definitions.specs.Terms.{TermTree, free_variable, bound_name, constant, application, abstraction}
-use Rattle.lt_definitions.specs.Nameless.{Nameless, nameless_bound, nameless_loose, nameless_application, nameless_abstraction, deeper, nameless_name, nameless, IsWhole}
-use Rattle.lt_definitions.proofs.Tests.{bool_cases}
-use Rattle.lt_definitions.proofs.Alphas.{name-hit, name-miss}
+use Rattle.lt_nameless.specs.Nameless.{Nameless, nameless_bound, nameless_loose, nameless_application, nameless_abstraction, deeper, nameless_name, nameless, IsWhole}
+use Rattle.lt_definitions.proofs.SameNames.{bool_cases}
+use Rattle.lt_nameless.proofs.Alphas.{name-hit, name-miss}
 use Rattle.lt_terms.specs.declared.bound_names.Binder.{Binder}
 use Rattle.lt_terms.specs.declared.term.TermNode.{TermNode}
 use Rattle.lt_terms.specs.declared.term.TermNode.TheVariants.{Bound, App, Lam}

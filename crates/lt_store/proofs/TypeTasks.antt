@@ -2,8 +2,8 @@
 use Rattle.std.proofs.Common.{◌≡◌, ℕ, ◌+◌, ◌*◌, ◌<◌, List, [], ◌∷◌, length, slice_get, Option, Some, None, Result, Ok, Err, ◌⊎◌, inl, inr, refl, sym, ◌∙◌, ap, subst, arith}
 use Rattle.lt_definitions.specs.Types.{TypeTree, fun}
 use Rattle.lt_definitions.specs.Typing.{Signature, Fault, earlier, type_fault, unless, with_ok, bound_type, applied_type}
-use Rattle.lt_definitions.specs.Nameless.{Nameless, nameless_bound, nameless_application, nameless_abstraction, IsWhole}
-use Rattle.lt_definitions.specs.NamelessRules.{nameless_typed}
+use Rattle.lt_nameless.specs.Nameless.{Nameless, nameless_bound, nameless_application, nameless_abstraction, IsWhole}
+use Rattle.lt_nameless.specs.NamelessRules.{nameless_typed}
 use Rattle.lt_hol.specs.declared.type_fault.TypeFault.{TypeFault}
 use Rattle.lt_hol.specs.Faults.{Finds, fault_of}
 use Rattle.lt_store.specs.declared.node.Node.{Node}

@@ -3,7 +3,7 @@ use Rattle.std.specs.Prelude.{◌≡◌, ℕ, zero, suc, ◌+◌, ◌*◌, ◌<�
 use Rattle.std.specs.Fmt.{decimal}
 use Rattle.lt_definitions.specs.Types.{Chars}
 use Rattle.lt_definitions.specs.Terms.{TermTree}
-use Rattle.lt_definitions.specs.Nameless.{Nameless, nameless, IsWhole}
+use Rattle.lt_nameless.specs.Nameless.{Nameless, nameless, IsWhole}
 use Rattle.lt_terms.specs.Layout.{applied, abstracted}
 use Rattle.lt_store.specs.declared.node.Node.{Node}
 use Rattle.lt_store.specs.declared.naming.NameTask.{NameTask}

@@ -1,8 +1,8 @@
 -- What a pass over a term makes, or tells.
 use Rattle.std.specs.Prelude.{◌≡◌, ℕ, ◌+◌, ◌<◌, List, [], ◌∷◌, Bool, length, if◌then◌else◌, Some}
 use Rattle.lt_definitions.specs.Types.{TypeTree, type_instance}
-use Rattle.lt_definitions.specs.Nameless.{Nameless}
-use Rattle.lt_definitions.specs.NamelessRules.{instance_at, abstracted, nameless_replaced, nameless_instance, nameless_has_free, has_index}
+use Rattle.lt_nameless.specs.Nameless.{Nameless}
+use Rattle.lt_nameless.specs.NamelessRules.{instance_at, abstracted, nameless_replaced, nameless_instance, nameless_has_free, has_index}
 use Rattle.lt_store.specs.declared.node.Node.{Node}
 use Rattle.lt_store.specs.declared.node.Node.TheVariants as node
 use Rattle.lt_store.specs.declared.change.Change.{Change}

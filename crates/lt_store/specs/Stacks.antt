@@ -1,7 +1,7 @@
 -- What the nodes of a term make in a store, one after another.
 use Rattle.std.specs.Prelude.{ℕ, ◌≤◌, List, [], ◌∷◌, length, reverse, Option, Some, None, IsSome}
 use Rattle.lt_definitions.specs.Types.{TypeTree}
-use Rattle.lt_definitions.specs.Nameless.{Nameless, nameless_free, nameless_bound, nameless_constant, nameless_application, nameless_abstraction}
+use Rattle.lt_nameless.specs.Nameless.{Nameless, nameless_free, nameless_bound, nameless_constant, nameless_application, nameless_abstraction}
 use Rattle.lt_terms.specs.declared.bound_names.Binder.{Binder}
 use Rattle.lt_terms.specs.declared.term.TermNode.{TermNode}
 use Rattle.lt_terms.specs.declared.term.TermNode.TheVariants.{Free, Bound, Const, App, Lam}

@@ -2,8 +2,8 @@
 use Rattle.std.specs.Prelude.{◌≡◌, ℕ, ◌+◌, ◌*◌, ◌<◌, List, [], ◌∷◌, ◌++◌, length, reverse, Option, Some, None, Result, Ok, Err, ◌⊎◌}
 use Rattle.lt_definitions.specs.Types.{TypeTree}
 use Rattle.lt_definitions.specs.Typing.{Signature, Fault, earlier, type_fault}
-use Rattle.lt_definitions.specs.Nameless.{nameless_application, nameless_abstraction, IsWhole}
-use Rattle.lt_definitions.specs.NamelessRules.{nameless_typed}
+use Rattle.lt_nameless.specs.Nameless.{nameless_application, nameless_abstraction, IsWhole}
+use Rattle.lt_nameless.specs.NamelessRules.{nameless_typed}
 use Rattle.lt_hol.specs.declared.type_fault.TypeFault.{TypeFault}
 use Rattle.lt_hol.specs.Faults.{Finds, fault_of}
 use Rattle.lt_store.specs.declared.node.Node.{Node}

@@ -1,7 +1,7 @@
 //! What one node becomes, where what its children become was kept.
 ghost use Rattle.std.specs.Prelude.{◌≡◌, ◌+◌, ◌<◌, ◌^◌, ◌&&◌, length, map, true, Some, slice_get, IfOk};
 ghost use Rattle.lt_definitions.specs.Types.{same_name, same_type, type_instance};
-ghost use Rattle.lt_definitions.specs.Nameless.{nameless_free, nameless_bound, nameless_constant};
+ghost use Rattle.lt_nameless.specs.Nameless.{nameless_free, nameless_bound, nameless_constant};
 ghost use Rattle.lt_store.specs.declared.node.Node.{Node};
 ghost use Rattle.lt_store.specs.declared.change.Work.TheVariants as work;
 ghost use Rattle.lt_store.specs.Trees.{tree_at, Extends};

@@ -1,6 +1,6 @@
 //! Terms out of a store, with names for their binders.
 ghost use Rattle.std.specs.Prelude.{◌≡◌, ◌+◌, ◌^◌, ◌<◌, ◌≤◌, [], ◌∷◌, length, reverse, IfOk, OnOk};
-ghost use Rattle.lt_definitions.specs.Nameless.{Nameless, nameless, IsWhole};
+ghost use Rattle.lt_nameless.specs.Nameless.{Nameless, nameless, IsWhole};
 ghost use Rattle.lt_store.specs.declared.naming.NameTask.TheVariants.{Visit as visit, Join as joining, Cover as covering};
 ghost use Rattle.lt_store.specs.Trees.{tree_at};
 ghost use Rattle.lt_store.specs.NameTasks.{binder_name, HasNames, Leaves, Turns};

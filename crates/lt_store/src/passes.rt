@@ -1,7 +1,7 @@
 //! The passes over the terms of any store.
 ghost use Rattle.std.specs.Prelude.{◌≡◌, ◌<◌, length, map, IfOk};
 ghost use Rattle.std.specs.List.{list_any};
-ghost use Rattle.lt_definitions.specs.NamelessRules.{instance_at, abstracted, nameless_replaced, nameless_instance, nameless_has_free, has_index};
+ghost use Rattle.lt_nameless.specs.NamelessRules.{instance_at, abstracted, nameless_replaced, nameless_instance, nameless_has_free, has_index};
 ghost use Rattle.lt_store.specs.Trees.{tree_at, trees, AllBelow, Extends};
 ghost use Rattle.lt_store.specs.Passes.{image, occurs, ChangeIsIn};
 

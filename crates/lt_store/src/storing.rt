@@ -1,6 +1,6 @@
 //! Terms with binder names into a store.
 ghost use Rattle.std.specs.Prelude.{◌≡◌, ◌<◌, ◌≤◌, [], ◌∷◌, length, IfOk, IsSome};
-ghost use Rattle.lt_definitions.specs.Nameless.{nameless, IsWhole};
+ghost use Rattle.lt_nameless.specs.Nameless.{nameless, IsWhole};
 ghost use Rattle.lt_store.specs.Trees.{tree_at, AllBelow, Extends};
 ghost use Rattle.lt_store.specs.Stacks.{stack, joined, covered, index_of, grown, HasParts};
 

@@ -1,7 +1,7 @@
 //! The types of terms in a store.
 ghost use Rattle.std.specs.Prelude.{◌<◌, [], length};
-ghost use Rattle.lt_definitions.specs.Nameless.{IsWhole};
-ghost use Rattle.lt_definitions.specs.NamelessRules.{nameless_typed};
+ghost use Rattle.lt_nameless.specs.Nameless.{IsWhole};
+ghost use Rattle.lt_nameless.specs.NamelessRules.{nameless_typed};
 ghost use Rattle.lt_hol.specs.Faults.{Gives};
 ghost use Rattle.lt_store.specs.Trees.{tree_at};
 

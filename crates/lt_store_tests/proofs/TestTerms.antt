@@ -3,9 +3,9 @@ use Rattle.std.proofs.Common.{◌≡◌, ℕ, ◌<◌, List, [], length, Ok, sym
 use Rattle.lt_definitions.specs.Types.{TypeTree}
 use Rattle.lt_definitions.specs.Terms.{TermTree}
 use Rattle.lt_definitions.specs.Typing.{Signature, typed}
-use Rattle.lt_definitions.specs.Nameless.{Nameless, nameless, IsWhole}
-use Rattle.lt_definitions.proofs.Typings.{typed-has}
-use Rattle.lt_definitions.proofs.Whole.{typed_is_whole}
+use Rattle.lt_nameless.specs.Nameless.{Nameless, nameless, IsWhole}
+use Rattle.lt_nameless.proofs.Typings.{typed-has}
+use Rattle.lt_nameless.proofs.ClosedForms.{typed_is_whole}
 use Rattle.lt_store.specs.declared.node.Node.{Node}
 use Rattle.lt_store.specs.Trees.{tree_at, Extends}
 use Rattle.lt_store.proofs.Trees.{tree_at-extends}

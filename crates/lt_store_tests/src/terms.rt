@@ -1,6 +1,6 @@
 //! Tests of terms with binder names in a store, and of types there.
 ghost use Rattle.std.specs.Prelude.{◌<◌, length, IfOk};
-ghost use Rattle.lt_definitions.specs.Nameless.{IsWhole};
+ghost use Rattle.lt_nameless.specs.Nameless.{IsWhole};
 ghost use Rattle.lt_store.specs.Trees.{tree_at, Extends};
 
 use crate::stores::{bool_type, name};

@@ -4,7 +4,7 @@ use Rattle.std.specs.Option.{unwrap_or}
 use Rattle.std.specs.Map.{lookup}
 use Rattle.lt_definitions.specs.Types.{Chars, same_name}
 use Rattle.lt_definitions.specs.Printing.{printed_bound}
-use Rattle.lt_definitions.proofs.Tests.{bool_cases, name-true, true-name, name-false, false-name}
+use Rattle.lt_definitions.proofs.SameNames.{bool_cases, name-true, true-name, name-false, false-name}
 use Rattle.lt_syntax.specs.Depths.{depth_of, Opened, names_of, AreSaved, depth_in, IsKept}
 
 same-swap : (x y : Chars) → same_name x y ≡ same_name y x

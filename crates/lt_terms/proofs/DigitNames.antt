@@ -11,7 +11,7 @@ use Rattle.unicode_ident.specs.Ident.{is_xid_start, is_xid_continue}
 use Rattle.ucd_table.specs.Rows.{in_ranges}
 use Rattle.ucd_derived.specs.XidStartRanges.{xid_start_ranges}
 use Rattle.ucd_derived.specs.XidContinueRanges.{xid_continue_ranges}
-use Rattle.lt_definitions.proofs.Tests.{both-true, true-both}
+use Rattle.lt_definitions.proofs.SameNames.{both-true, true-both}
 use Rattle.lt_types.specs.Lexical.{is_name, name_goes_on, may_stand}
 
 -- so many characters from one on may stand in a name

@@ -4,7 +4,7 @@ use Rattle.std.specs.Option.{option_copied}
 use Rattle.std.specs.Cmp.Lexicographic.{pointwise}
 use Rattle.indexmap.specs.IndexMap.{insert_entry}
 use Rattle.lt_definitions.specs.Types.{Chars, same_name, found}
-use Rattle.lt_definitions.proofs.Tests.{true-false}
+use Rattle.lt_definitions.proofs.SameNames.{true-false}
 
 -- a new name is declared last
 pub inserted-new : {A : Type 0} (x : Chars) (v : A) (es : List (Chars × A)) → is_some (found x es) ≡ false → insert_entry (pointwise nat_eq) es x v ≡ es ++ (x, v) ∷ []

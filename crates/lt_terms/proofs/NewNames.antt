@@ -6,12 +6,12 @@ use Rattle.std.proofs.lemmas.List.Folds.{list_any-append}
 use Rattle.lt_definitions.specs.Types.{Chars, same_name, TypeTree, same_type}
 use Rattle.lt_definitions.specs.Terms.{TermTree, free_variable, bound_name, constant, application, abstraction, has_free}
 use Rattle.lt_definitions.specs.Binding.{opened, replaced, Closes, longest, new_binder, closed_over}
-use Rattle.lt_definitions.specs.Nameless.{nameless, nameless_abstraction}
-use Rattle.lt_definitions.specs.NamelessRules.{abstracted}
-use Rattle.lt_definitions.proofs.Tests.{true-false, bool_cases, both-true, name-true, true-name, false-name, type-true}
-use Rattle.lt_definitions.proofs.Alphas.{alpha-nameless, nameless-alpha}
-use Rattle.lt_definitions.proofs.Bridges.{if-true, if-false, closed-nameless, new_is_longer}
-use Rattle.lt_definitions.proofs.Closings.{closings_are_alpha}
+use Rattle.lt_nameless.specs.Nameless.{nameless, nameless_abstraction}
+use Rattle.lt_nameless.specs.NamelessRules.{abstracted}
+use Rattle.lt_definitions.proofs.SameNames.{true-false, bool_cases, both-true, name-true, true-name, false-name, type-true}
+use Rattle.lt_nameless.proofs.Alphas.{alpha-nameless, nameless-alpha}
+use Rattle.lt_nameless.proofs.BindingLemmas.{if-true, if-false, closed-nameless, new_is_longer}
+use Rattle.lt_nameless.proofs.Closings.{closings_are_alpha}
 use Rattle.lt_terms.specs.declared.term.TermNode.{TermNode}
 use Rattle.lt_terms.specs.declared.term.TermNode.TheVariants.{App, Lam}
 use Rattle.lt_terms.specs.Layout.{under, term_nodes}

@@ -7,8 +7,8 @@ use Rattle.std.proofs.lemmas.List.{reverse-append}
 use Rattle.lt_definitions.specs.Types.{Chars, same_name, has_name, names_joined, found, TypeTree, TypeTrees, TypeMap, type_variable, type_constructor, no_types, type_and, row, type_names, types_names}
 use Rattle.lt_definitions.specs.Terms.{TermTree, term_names, term_variables}
 use Rattle.lt_definitions.specs.Alpha.{numbered}
-use Rattle.lt_definitions.proofs.Tests.{true-false, bool_cases}
-use Rattle.lt_definitions.proofs.Bridges.{if-true, if-false}
+use Rattle.lt_definitions.proofs.SameNames.{true-false, bool_cases}
+use Rattle.lt_nameless.proofs.BindingLemmas.{if-true, if-false}
 use Rattle.lt_types.specs.Maps.{with_pair}
 use Rattle.lt_types.specs.Layout as types
 use Rattle.lt_types.specs.declared.ty.TyNode.{TyNode}

@@ -3,7 +3,7 @@ use Rattle.std.proofs.Common.{◌≡◌, ◌∙◌, inl, inr, ℕ, suc, ◌+◌,
 use Rattle.std.specs.Option.{unwrap_or}
 use Rattle.std.specs.Map.{lookup}
 use Rattle.lt_definitions.specs.Types.{Chars, same_name}
-use Rattle.lt_definitions.proofs.Tests.{bool_cases, name-true, true-name, name-false, false-name}
+use Rattle.lt_definitions.proofs.SameNames.{bool_cases, name-true, true-name, name-false, false-name}
 use Rattle.lt_terms.specs.declared.bound_names.Binder.{Binder}
 use Rattle.lt_terms.specs.declared.scope.Opening.{Opening}
 use Rattle.lt_terms.specs.declared.scope.Entered.{Entered}

@@ -5,8 +5,8 @@ use Rattle.std.proofs.lemmas.Bool.Decides.{nat_tests}
 use Rattle.lt_definitions.specs.Types.{Chars, same_name, has_name, TypeTree}
 use Rattle.lt_definitions.specs.Terms.{TermTree, free_variable, bound_name, constant, application, abstraction}
 use Rattle.lt_definitions.specs.Binding.{opened}
-use Rattle.lt_definitions.proofs.Tests.{true-false, bool_cases, name-true, true-name, name-false, false-name}
-use Rattle.lt_definitions.proofs.Bridges.{if-true, if-false}
+use Rattle.lt_definitions.proofs.SameNames.{true-false, bool_cases, name-true, true-name, name-false, false-name}
+use Rattle.lt_nameless.proofs.BindingLemmas.{if-true, if-false}
 use Rattle.lt_terms.specs.declared.term.TermNode.{TermNode}
 use Rattle.lt_terms.specs.declared.term.TermNode.TheVariants.{Free, Bound, Const, App, Lam}
 use Rattle.lt_terms.specs.declared.bound_names.Binder.{Binder}

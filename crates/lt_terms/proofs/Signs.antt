@@ -8,10 +8,10 @@ use Rattle.std.proofs.lemmas.Bool.Decides.{nat_tests}
 use Rattle.lt_definitions.specs.Types.{Chars, same_name, TypeTree, same_type, same_types, row}
 use Rattle.lt_definitions.specs.Terms.{TermTree, free_variable, bound_name, constant, application, abstraction}
 use Rattle.lt_definitions.specs.Alpha.{is_alpha}
-use Rattle.lt_definitions.specs.Nameless.{Nameless, nameless_free, nameless_bound, nameless_loose, nameless_constant, nameless_application, nameless_abstraction, deeper, nameless_name, nameless}
-use Rattle.lt_definitions.proofs.Tests.{true-false, bool_cases, both-true, true-both, name-true, true-name, type-true, true-type, row-true, true-row}
-use Rattle.lt_definitions.proofs.Alphas.{alpha-is, is-alpha, alpha-nameless, nameless-alpha, name-hit, name-miss}
-use Rattle.lt_definitions.proofs.Bridges.{if-true, if-false}
+use Rattle.lt_nameless.specs.Nameless.{Nameless, nameless_free, nameless_bound, nameless_loose, nameless_constant, nameless_application, nameless_abstraction, deeper, nameless_name, nameless}
+use Rattle.lt_definitions.proofs.SameNames.{true-false, bool_cases, both-true, true-both, name-true, true-name, type-true, true-type, row-true, true-row}
+use Rattle.lt_nameless.proofs.Alphas.{alpha-is, is-alpha, alpha-nameless, nameless-alpha, name-hit, name-miss}
+use Rattle.lt_nameless.proofs.BindingLemmas.{if-true, if-false}
 use Rattle.lt_terms.specs.declared.term.TermNode.{TermNode}
 use Rattle.lt_terms.specs.declared.term.TermNode.TheVariants.{Free, Bound, Const, App, Lam}
 use Rattle.lt_terms.specs.declared.bound_names.Binder.{Binder}

@@ -1,8 +1,8 @@
 //! Abstraction over a free variable.
 ghost use Rattle.std.specs.Prelude.{◌≡◌, [], IfOk, false};
 ghost use Rattle.lt_definitions.specs.Binding.{Closes, longest, new_binder};
-ghost use Rattle.lt_definitions.specs.Nameless.{nameless, nameless_abstraction};
-ghost use Rattle.lt_definitions.specs.NamelessRules.{abstracted};
+ghost use Rattle.lt_nameless.specs.Nameless.{nameless, nameless_abstraction};
+ghost use Rattle.lt_nameless.specs.NamelessRules.{abstracted};
 ghost use Rattle.lt_terms.specs.NodeNames.{has_bound, is_bound_at, name_length};
 
 use crate::replacing::subst_free;

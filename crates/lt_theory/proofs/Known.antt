@@ -5,7 +5,7 @@ use Rattle.lt_definitions.specs.Types.{Chars, same_name, found}
 use Rattle.lt_definitions.specs.Terms.{TermTree}
 use Rattle.lt_definitions.specs.Items.{Context, with_statements}
 use Rattle.lt_definitions.specs.Theory.{duplicate, refused_where, new_name}
-use Rattle.lt_definitions.specs.Nameless.{Nameless, nameless}
+use Rattle.lt_nameless.specs.Nameless.{Nameless, nameless}
 use Rattle.lt_store.specs.Trees.{tree_at}
 use Rattle.lt_kernel.specs.State.{State, Stays}
 use Rattle.lt_theory.specs.Standing.{StandsFor}

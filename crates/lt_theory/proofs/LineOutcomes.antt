@@ -3,14 +3,14 @@ use Rattle.std.proofs.Common.{◌≡◌, ℕ, zero, suc, ◌+◌, ◌≤◌, app
 use Rattle.std.specs.List.{list_all}
 use Rattle.std.proofs.lemmas.List.{map-append, drop_all}
 use Rattle.std.proofs.lemmas.Option.{slice_get-map}
-use Rattle.lt_definitions.proofs.Tests.{both-true}
+use Rattle.lt_definitions.proofs.SameNames.{both-true}
 use Rattle.lt_definitions.specs.Typing.{Signature, Fault}
 use Rattle.lt_definitions.specs.Items.{Context}
 use Rattle.lt_definitions.specs.Rules.{Sequent, Rule, Reason, Outcome, step}
 use Rattle.lt_definitions.specs.Derivations.{LineFault, ill_typed, no_step, line_outcome, rule_fault, derived, derived_after}
-use Rattle.lt_definitions.specs.Nameless.{NamelessSequent, nameless_sequent}
-use Rattle.lt_definitions.specs.NamelessRules.{nameless_outcome, nameless_step}
-use Rattle.lt_definitions.proofs.NamelessSteps.{step_is_nameless}
+use Rattle.lt_nameless.specs.Nameless.{NamelessSequent, nameless_sequent}
+use Rattle.lt_nameless.specs.NamelessRules.{nameless_outcome, nameless_step}
+use Rattle.lt_nameless.proofs.NamelessSteps.{step_is_nameless}
 use Rattle.lt_hol.specs.declared.line.Line.{Line}
 use Rattle.lt_hol.specs.declared.reason.Reason.{Reason as Kernel}
 use Rattle.lt_kernel.specs.Reasons.{reason_of}

@@ -5,11 +5,11 @@ use Rattle.lt_definitions.specs.Terms.{TermTree, bound_name}
 use Rattle.lt_definitions.specs.Typing.{Signature, type_fault, earlier}
 use Rattle.lt_definitions.specs.Rules.{Rule}
 use Rattle.lt_definitions.specs.Derivations.{term_fault, rule_fault}
-use Rattle.lt_definitions.specs.Nameless.{Nameless, nameless, IsWhole}
-use Rattle.lt_definitions.specs.NamelessRules.{line_assume, line_weaken, line_refl, line_beta, line_eta, line_impI, line_allE, line_inst, line_select, line_ccontr, nameless_rule, nameless_rule_fault}
-use Rattle.lt_definitions.proofs.NamelessSteps.{faults_are_nameless}
-use Rattle.lt_definitions.proofs.NamelessTyping.{typed-of}
-use Rattle.lt_definitions.proofs.Whole.{typed_is_whole}
+use Rattle.lt_nameless.specs.Nameless.{Nameless, nameless, IsWhole}
+use Rattle.lt_nameless.specs.NamelessRules.{line_assume, line_weaken, line_refl, line_beta, line_eta, line_impI, line_allE, line_inst, line_select, line_ccontr, nameless_rule, nameless_rule_fault}
+use Rattle.lt_nameless.proofs.NamelessSteps.{faults_are_nameless}
+use Rattle.lt_nameless.proofs.NamelessTyping.{typed-of}
+use Rattle.lt_nameless.proofs.ClosedForms.{typed_is_whole}
 use Rattle.lt_hol.specs.declared.line.Line.{Line}
 use Rattle.lt_hol.specs.declared.line.Line.TheVariants.{Assume, Weaken, Refl, Beta, Eta, ImpI, AllE, Inst, Select, Ccontr}
 use Rattle.lt_hol.specs.Lines.{rule_of}

@@ -9,8 +9,8 @@ use Rattle.lt_definitions.specs.Alpha.{is_alpha}
 use Rattle.lt_definitions.specs.Rules.{Sequent, line_at}
 use Rattle.lt_definitions.specs.Derivations.{fault_of}
 use Rattle.lt_definitions.specs.Theory.{Refusal, first_of, boolean_test, closed_test, last_of, has_none, is_proved}
-use Rattle.lt_definitions.specs.Nameless.{nameless, NamelessSequent, nameless_sequent, IsWhole}
-use Rattle.lt_definitions.proofs.Alphas.{alpha_is_nameless, alpha_is_tested}
+use Rattle.lt_nameless.specs.Nameless.{nameless, NamelessSequent, nameless_sequent, IsWhole}
+use Rattle.lt_nameless.proofs.Alphas.{alpha_is_nameless, alpha_is_tested}
 use Rattle.lt_store.specs.declared.node.Node.{Node}
 use Rattle.lt_store.specs.Trees.{tree_at}
 use Rattle.lt_kernel.specs.declared.sequent.Sequent.{Sequent as Stored}

@@ -3,7 +3,7 @@ use Rattle.std.specs.Prelude.{◌≡◌, ℕ, List, [], ◌∷◌, ◌++◌, map
 use Rattle.lt_definitions.specs.Items.{Context}
 use Rattle.lt_definitions.specs.Rules.{Sequent, Rule, step}
 use Rattle.lt_definitions.specs.Derivations.{LineFault, line_outcome, rule_fault, derived}
-use Rattle.lt_definitions.specs.Nameless.{nameless_sequent}
+use Rattle.lt_nameless.specs.Nameless.{nameless_sequent}
 use Rattle.lt_kernel.specs.State.{State, sequents}
 use Rattle.lt_theory.specs.declared.fault.Fault.{Fault}
 use Rattle.lt_theory.specs.declared.fault.Fault.TheVariants.{Refused, Memory}

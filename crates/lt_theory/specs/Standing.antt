@@ -2,7 +2,7 @@
 use Rattle.std.specs.Prelude.{◌≡◌, None, IsSome, Result, Ok, Err}
 use Rattle.lt_definitions.specs.Items.{Context, Item, with_item}
 use Rattle.lt_definitions.specs.Theory.{refusal}
-use Rattle.lt_definitions.specs.NamelessRules.{nameless_statements}
+use Rattle.lt_nameless.specs.NamelessRules.{nameless_statements}
 use Rattle.lt_kernel.specs.State.{statements}
 pub use Rattle.lt_kernel.specs.State.{State}
 use Rattle.lt_theory.specs.declared.fault.Fault.{Fault}

@@ -4,8 +4,8 @@ use Rattle.lt_definitions.specs.Terms.{TermTree}
 use Rattle.lt_definitions.specs.Typing.{Signature}
 use Rattle.lt_definitions.specs.Rules.{Rule}
 use Rattle.lt_definitions.specs.Derivations.{term_fault, rule_fault}
-use Rattle.lt_definitions.specs.Nameless.{nameless}
-use Rattle.lt_definitions.specs.NamelessRules.{nameless_rule}
+use Rattle.lt_nameless.specs.Nameless.{nameless}
+use Rattle.lt_nameless.specs.NamelessRules.{nameless_rule}
 use Rattle.lt_hol.specs.declared.line.Line.{Line}
 use Rattle.lt_store.specs.declared.node.Node.{Node}
 use Rattle.lt_store.specs.Trees.{tree_at}

@@ -4,7 +4,7 @@ ghost use Rattle.lt_definitions.specs.Items.{Context, axiom_item, lemma_item};
 ghost use Rattle.lt_definitions.specs.Terms.{TermTree};
 ghost use Rattle.lt_definitions.specs.Rules.{Sequent};
 ghost use Rattle.lt_definitions.specs.Theory.{is_proved, last_of};
-ghost use Rattle.lt_definitions.specs.Nameless.{nameless};
+ghost use Rattle.lt_nameless.specs.Nameless.{nameless};
 ghost use Rattle.lt_hol.specs.Lines.{rules_of};
 ghost use Rattle.lt_store.specs.Trees.{tree_at};
 ghost use Rattle.lt_kernel.specs.State.{Stays};

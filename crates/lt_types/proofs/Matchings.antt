@@ -7,7 +7,7 @@ use Rattle.std.proofs.lemmas.List.{take-append-drop, length-map, map-append, len
 use Rattle.lt_types.specs.declared.ty.TyNode.{TyNode}
 use Rattle.lt_types.specs.declared.ty.TyNode.TheVariants.{Var, Con}
 use Rattle.lt_definitions.specs.Types.{Chars, same_name, has_name, names_joined, TypeTree, TypeTrees, TypeMap, type_variable, type_constructor, no_types, type_and, row, listed, found, type_names, types_names, type_variables, type_instance, types_instance}
-use Rattle.lt_definitions.proofs.Tests.{true-false, name-true, true-name, listed-row}
+use Rattle.lt_definitions.proofs.SameNames.{true-false, name-true, true-name, listed-row}
 use Rattle.lt_types.specs.Layout.{grow, HasRoom, forest, type_nodes}
 use Rattle.lt_types.specs.Maps.{with_pair}
 use Rattle.lt_types.specs.Matching.{firsts_behind, AreOccurrences, BeginsAt, arguments}

@@ -5,7 +5,7 @@ use Rattle.std.proofs.Math.Seq.{take-append_seam, drop-append_seam}
 use Rattle.lt_types.specs.declared.ty.TyNode.{TyNode}
 use Rattle.lt_types.specs.declared.ty.TyNode.TheVariants.{Var, Con}
 use Rattle.lt_definitions.specs.Types.{TypeTree, Chars, type_variable, type_constructor, row}
-use Rattle.lt_definitions.proofs.Tests.{listed-row}
+use Rattle.lt_definitions.proofs.SameNames.{listed-row}
 use Rattle.lt_types.specs.Layout.{below, sizes, type_size, roots, type_nodes, row_nodes, forest, IsRow}
 use Rattle.lt_types.proofs.Nodes.{length-roots, length-row_nodes, forest-row_nodes}
 

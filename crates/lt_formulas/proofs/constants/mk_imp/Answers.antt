@@ -1,5 +1,5 @@
 use Rattle.std.proofs.Common.{◌≡◌, ◌∙◌, [], codes}
-use Rattle.lt_definitions.specs.Nameless.{nameless_constant}
+use Rattle.lt_nameless.specs.Nameless.{nameless_constant}
 use Rattle.lt_types.proofs.Words.{imp-word, imp-chars}
 use Rattle.lt_formulas.proofs.constants.mk_imp.Goals as goal
 

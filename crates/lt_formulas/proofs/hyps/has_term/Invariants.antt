@@ -1,6 +1,6 @@
 use Rattle.std.proofs.Common.{◌≡◌, drop}
 use Rattle.std.specs.List.{list_any}
-use Rattle.lt_definitions.specs.NamelessRules.{same_nameless}
+use Rattle.lt_nameless.specs.NamelessRules.{same_nameless}
 use Rattle.lt_store.specs.Trees.{tree_at, trees}
 use Rattle.lt_formulas.proofs.hyps.has_term.Given as goal
 

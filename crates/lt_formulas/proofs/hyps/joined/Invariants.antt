@@ -1,5 +1,5 @@
 use Rattle.std.proofs.Common.{◌≡◌, length, drop}
-use Rattle.lt_definitions.specs.NamelessRules.{nameless_union}
+use Rattle.lt_nameless.specs.NamelessRules.{nameless_union}
 use Rattle.lt_store.specs.Trees.{trees, AllBelow}
 use Rattle.lt_formulas.proofs.hyps.joined.Given as goal
 

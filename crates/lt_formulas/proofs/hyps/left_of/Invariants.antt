@@ -1,5 +1,5 @@
 use Rattle.std.proofs.Common.{◌≡◌, length, take}
-use Rattle.lt_definitions.specs.NamelessRules.{nameless_without}
+use Rattle.lt_nameless.specs.NamelessRules.{nameless_without}
 use Rattle.lt_store.specs.Trees.{tree_at, trees, AllBelow}
 use Rattle.lt_formulas.proofs.hyps.left_of.Given as goal
 

@@ -1,5 +1,5 @@
 use Rattle.std.proofs.Common.{◌≡◌, Some, is_some, Result, Ok, Err, IfOk, List, reverse, sym, ◌∙◌, ap}
-use Rattle.lt_definitions.specs.PlainTexts.{ItemText, item_of_text}
+use Rattle.lt_texts.specs.PlainTexts.{ItemText, item_of_text}
 use Rattle.lt_hol.specs.Items.{item_of}
 use Rattle.lt_hol.specs.declared.item.Item.{Item}
 use Rattle.lt_reader.specs.declared.symbol.Instruction.{Instruction}

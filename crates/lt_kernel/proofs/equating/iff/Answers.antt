@@ -1,5 +1,5 @@
 use Rattle.std.proofs.Common.{sym, ◌∙◌, ap}
-use Rattle.lt_definitions.specs.NamelessRules.{nameless_equation}
+use Rattle.lt_nameless.specs.NamelessRules.{nameless_equation}
 use Rattle.lt_store.specs.Trees.{tree_at}
 use Rattle.lt_kernel.proofs.Outcomes.{gives-later, iff-gives}
 use Rattle.lt_kernel.proofs.equating.iff.Goals as goal

@@ -1,5 +1,5 @@
 use Rattle.std.proofs.Common.{◌∙◌, ap, true, false, ne_eqb, eq-eqb}
-use Rattle.lt_definitions.specs.Texts.{ending}
+use Rattle.lt_texts.specs.Texts.{ending}
 use Rattle.lt_lex.proofs.Nexts.{ending_told}
 use Rattle.lt_lex.proofs.Lexer.ending.Goals as goal
 

@@ -1,5 +1,5 @@
 use Rattle.std.proofs.Common.{◌∙◌, ap, sym, refl}
-use Rattle.lt_definitions.specs.Texts.{lexed, after, ending}
+use Rattle.lt_texts.specs.Texts.{lexed, after, ending}
 use Rattle.lt_lex.proofs.Nexts.{lexed_end, lexed_none, lexed_some, after_some, place_found, read_told, shorter_told}
 use Rattle.lt_lex.proofs.Lexer.next_token.Goals as goal
 

@@ -3,7 +3,7 @@ use Rattle.std.proofs.Common.{◌≡◌, ◌<◌, ◌∙◌, ap, sym, reverse, a
 use Rattle.std.specs.Prelude.{vec_len}
 use Rattle.std.proofs.lemmas.Bool.{eqb-true}
 use Rattle.std.proofs.lemmas.List.{length-reverse}
-use Rattle.lt_definitions.specs.Lexemes.{lexeme}
+use Rattle.lt_texts.specs.Lexemes.{lexeme}
 use Rattle.lt_reader.specs.Machine.{meant}
 use Rattle.lt_reader.proofs.Comes.{Comes, comes_on, came_on, came_to, came_shorter, stops_at_variable, stops_at_token, ends_wrong, is_some}
 use Rattle.lt_reader.proofs.reading.read.Goals as goal

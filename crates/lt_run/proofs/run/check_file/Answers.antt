@@ -1,6 +1,6 @@
 -- The file's text is walked through, or it is too long.
 use Rattle.std.proofs.Common.{inl, inr, ap, Err}
-use Rattle.lt_definitions.specs.declared.walks.Ending.TheVariants.{TooLong}
+use Rattle.lt_texts.specs.declared.walks.Ending.TheVariants.{TooLong}
 use Rattle.lt_run.proofs.Told.{ends_made, ends_as, ends_too_long, stops_made}
 use Rattle.lt_run.proofs.run.check_file.Goals as goal
 

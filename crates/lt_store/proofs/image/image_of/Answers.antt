@@ -1,5 +1,5 @@
 use Rattle.std.proofs.Common.{◌≡◌, refl}
-use Rattle.lt_definitions.specs.Nameless.{nameless_application}
+use Rattle.lt_nameless.specs.Nameless.{nameless_application}
 use Rattle.lt_store.specs.Trees.{tree_at}
 use Rattle.lt_store.proofs.Images.{made_application, made_abstraction}
 use Rattle.lt_store.proofs.image.image_of.Goals as goal

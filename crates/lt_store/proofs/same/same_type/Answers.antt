@@ -1,5 +1,5 @@
 use Rattle.std.proofs.Common.{sym, ◌∙◌}
-use Rattle.lt_definitions.proofs.Tests.{type-true, true-type}
+use Rattle.lt_definitions.proofs.SameNames.{type-true, true-type}
 use Rattle.lt_store.proofs.same.same_type.Goals as goal
 
 pub returns : goal.returns

@@ -1,5 +1,5 @@
 use Rattle.lt_definitions.specs.Types.{same_types, row}
-use Rattle.lt_definitions.proofs.Tests.{row-true, true-row}
+use Rattle.lt_definitions.proofs.SameNames.{row-true, true-row}
 use Rattle.lt_store.proofs.SameTerms.{one_test}
 use Rattle.lt_store.proofs.same.same_types.Goals as goal
 

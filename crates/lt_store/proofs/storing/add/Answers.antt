@@ -1,5 +1,5 @@
 use Rattle.std.proofs.Common.{◌∙◌, ap, sym}
-use Rattle.lt_definitions.specs.Nameless.{nameless_free, nameless_bound, nameless_constant}
+use Rattle.lt_nameless.specs.Nameless.{nameless_free, nameless_bound, nameless_constant}
 use Rattle.lt_terms.specs.declared.term.TermNode.{TermNode}
 use Rattle.lt_store.specs.Stacks.{stack, grown}
 use Rattle.lt_store.proofs.StoredTerms.{leaf_stands}

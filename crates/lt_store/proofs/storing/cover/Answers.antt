@@ -1,5 +1,5 @@
 use Rattle.std.proofs.Common.{◌∙◌, ap}
-use Rattle.lt_definitions.specs.Nameless.{nameless_abstraction}
+use Rattle.lt_nameless.specs.Nameless.{nameless_abstraction}
 use Rattle.lt_store.specs.Trees.{tree_at}
 use Rattle.lt_store.proofs.StoredTerms.{covered_stands}
 use Rattle.lt_store.proofs.storing.cover.Goals as goal

@@ -1,5 +1,5 @@
 use Rattle.std.proofs.Common.{length, [], drop}
-use Rattle.lt_definitions.specs.Nameless.{nameless}
+use Rattle.lt_nameless.specs.Nameless.{nameless}
 use Rattle.lt_store.specs.Trees.{AllBelow, Extends}
 use Rattle.lt_store.specs.Stacks.{stack}
 use Rattle.lt_store.proofs.StoredTerms.{Remains}

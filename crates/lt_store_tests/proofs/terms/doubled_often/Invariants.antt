@@ -1,5 +1,5 @@
 use Rattle.std.proofs.Common.{◌<◌, length}
-use Rattle.lt_definitions.specs.Nameless.{IsWhole}
+use Rattle.lt_nameless.specs.Nameless.{IsWhole}
 use Rattle.lt_store.specs.Trees.{tree_at}
 use Rattle.lt_store_tests.proofs.terms.doubled_often.Given as goal
 

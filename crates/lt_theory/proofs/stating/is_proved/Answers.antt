@@ -3,7 +3,7 @@ use Rattle.std.specs.Option.{option_copied}
 use Rattle.lt_definitions.specs.Terms.{TermTree}
 use Rattle.lt_definitions.specs.Rules.{Sequent}
 use Rattle.lt_definitions.specs.Theory.{is_proved, last_of}
-use Rattle.lt_definitions.specs.Nameless.{nameless}
+use Rattle.lt_nameless.specs.Nameless.{nameless}
 use Rattle.lt_store.specs.Trees.{tree_at}
 use Rattle.lt_theory.specs.Deriving.{HasSequents}
 use Rattle.lt_theory.proofs.Tested.{last-sequent, none-proved, with-hypotheses, by-conclusion}

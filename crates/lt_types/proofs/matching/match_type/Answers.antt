@@ -1,6 +1,6 @@
 use Rattle.std.proofs.Common.{◌≡◌, ◌∙◌, [], map, ap, sym, subst, MatchOption}
 use Rattle.lt_definitions.specs.Types.{TypeMap, type_instance}
-use Rattle.lt_definitions.proofs.Tests.{type-true, true-type, true-false}
+use Rattle.lt_definitions.proofs.SameNames.{type-true, true-type, true-false}
 use Rattle.lt_types.specs.Matching.{firsts_behind, AreOccurrences}
 use Rattle.lt_types.proofs.Matchings.{firsts-domain, firsts-match}
 use Rattle.lt_types.proofs.matching.match_type.Goals as goal

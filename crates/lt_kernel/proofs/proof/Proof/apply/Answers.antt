@@ -1,5 +1,5 @@
 use Rattle.std.proofs.Common.{◌≡◌, ◌++◌, ◌∷◌, [], ◌∙◌, List, ap, subst, sym, length, refl, Ok, Err}
-use Rattle.lt_definitions.specs.NamelessRules.{nameless_step}
+use Rattle.lt_nameless.specs.NamelessRules.{nameless_step}
 use Rattle.lt_kernel.specs.declared.sequent.Step.{Step}
 use Rattle.lt_kernel.specs.Lines.{rule_at}
 use Rattle.lt_kernel.specs.Sequents.{sequents_at, statements_at, Gives}

@@ -1,9 +1,9 @@
 -- The header was read, or the first place that is wrong.
 use Rattle.std.proofs.Common.{◌≡◌, ◌∙◌, ap, sym, subst, refl, [], length}
-use Rattle.lt_definitions.specs.declared.lexical.Lexed.TheVariants.{End}
-use Rattle.lt_definitions.specs.Texts.{Left, left_of, lexed}
-use Rattle.lt_definitions.specs.Lexemes.{Spans}
-use Rattle.lt_definitions.specs.PlainTexts.{header, part_lexemes}
+use Rattle.lt_texts.specs.declared.lexical.Lexed.TheVariants.{End}
+use Rattle.lt_texts.specs.Texts.{Left, left_of, lexed}
+use Rattle.lt_texts.specs.Lexemes.{Spans}
+use Rattle.lt_texts.specs.PlainTexts.{header, part_lexemes}
 use Rattle.lt_reader.specs.declared.symbol.Symbol.TheVariants.{AHeader}
 use Rattle.lt_reader.specs.Reading.{IsStopped}
 use Rattle.lt_reader.proofs.Parts.{no_header, header_fails, reads_header, reads_source}

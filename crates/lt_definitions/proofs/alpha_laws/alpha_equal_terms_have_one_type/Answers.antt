@@ -1,5 +1,0 @@
-use Rattle.lt_definitions.proofs.BooleanSteps.{typed-alpha}
-use Rattle.lt_definitions.proofs.alpha_laws.alpha_equal_terms_have_one_type.Goals as goal
-
-pub returns : goal.returns
-returns c = typed-alpha

@@ -1,5 +1,0 @@
-use Rattle.lt_definitions.proofs.Alphas.{alpha_is_tested}
-use Rattle.lt_definitions.proofs.alpha_laws.alpha_is_tested.Goals as goal
-
-pub returns : goal.returns
-returns c = alpha_is_tested

@@ -1,5 +1,0 @@
-use Rattle.lt_definitions.proofs.AlphaLaws.{alpha_kept_by_closing}
-use Rattle.lt_definitions.proofs.alpha_laws.alpha_kept_by_closing.Goals as goal
-
-pub returns : goal.returns
-returns c = alpha_kept_by_closing

@@ -1,5 +1,0 @@
-use Rattle.lt_definitions.proofs.NamelessBooleans.{nameless_rules_keep_booleans}
-use Rattle.lt_definitions.proofs.nameless_laws.nameless_rules_keep_booleans.Goals as goal
-
-pub returns : goal.returns
-returns c = nameless_rules_keep_booleans

@@ -1,5 +1,0 @@
-use Rattle.lt_definitions.proofs.NamelessSteps.{step_is_nameless}
-use Rattle.lt_definitions.proofs.nameless_laws.step_is_nameless.Goals as goal
-
-pub returns : goal.returns
-returns c = step_is_nameless

@@ -1,5 +1,0 @@
-use Rattle.lt_definitions.proofs.OneReading.{one_lexing}
-use Rattle.lt_definitions.proofs.plain_texts.one_lexing.Goals as goal
-
-pub returns : goal.returns
-returns c = one_lexing

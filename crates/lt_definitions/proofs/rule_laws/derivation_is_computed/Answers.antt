@@ -1,5 +1,0 @@
-use Rattle.lt_definitions.proofs.Derived.{derivation_is_computed}
-use Rattle.lt_definitions.proofs.rule_laws.derivation_is_computed.Goals as goal
-
-pub returns : goal.returns
-returns c = derivation_is_computed

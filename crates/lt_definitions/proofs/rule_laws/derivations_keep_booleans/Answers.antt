@@ -1,5 +1,0 @@
-use Rattle.lt_definitions.proofs.BooleanSteps.{derivations_keep_booleans}
-use Rattle.lt_definitions.proofs.rule_laws.derivations_keep_booleans.Goals as goal
-
-pub returns : goal.returns
-returns c = derivations_keep_booleans

@@ -1,5 +1,0 @@
-use Rattle.lt_definitions.proofs.NamelessSteps.{step_respects_alpha}
-use Rattle.lt_definitions.proofs.rule_laws.step_respects_alpha.Goals as goal
-
-pub returns : goal.returns
-returns c = step_respects_alpha

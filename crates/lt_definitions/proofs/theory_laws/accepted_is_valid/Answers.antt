@@ -1,5 +1,0 @@
-use Rattle.lt_definitions.proofs.Refusals.{accepted_is_valid}
-use Rattle.lt_definitions.proofs.theory_laws.accepted_is_valid.Goals as goal
-
-pub returns : goal.returns
-returns c = accepted_is_valid

@@ -1,5 +1,0 @@
-use Rattle.lt_definitions.proofs.Statements.{statements_are_boolean}
-use Rattle.lt_definitions.proofs.theory_laws.statements_are_boolean.Goals as goal
-
-pub returns : goal.returns
-returns c = statements_are_boolean

@@ -1,5 +1,0 @@
-use Rattle.lt_definitions.proofs.Later.{valid_is_extending}
-use Rattle.lt_definitions.proofs.theory_laws.valid_is_extending.Goals as goal
-
-pub returns : goal.returns
-returns c = valid_is_extending

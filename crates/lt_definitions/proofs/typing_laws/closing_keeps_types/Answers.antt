@@ -1,5 +1,0 @@
-use Rattle.lt_definitions.proofs.TypeLaws.{closing_keeps_types}
-use Rattle.lt_definitions.proofs.typing_laws.closing_keeps_types.Goals as goal
-
-pub returns : goal.returns
-returns c = closing_keeps_types

@@ -1,5 +1,0 @@
-use Rattle.lt_definitions.proofs.Matching.{instance_matches}
-use Rattle.lt_definitions.proofs.typing_laws.instance_matches.Goals as goal
-
-pub returns : goal.returns
-returns c = instance_matches

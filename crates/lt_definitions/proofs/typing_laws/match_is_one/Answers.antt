@@ -1,5 +1,0 @@
-use Rattle.lt_definitions.proofs.Matching.{match_is_one}
-use Rattle.lt_definitions.proofs.typing_laws.match_is_one.Goals as goal
-
-pub returns : goal.returns
-returns c = match_is_one

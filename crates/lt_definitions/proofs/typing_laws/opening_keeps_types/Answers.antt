@@ -1,5 +1,0 @@
-use Rattle.lt_definitions.proofs.TypeLaws.{opening_keeps_types}
-use Rattle.lt_definitions.proofs.typing_laws.opening_keeps_types.Goals as goal
-
-pub returns : goal.returns
-returns c = opening_keeps_types

@@ -1,5 +1,0 @@
-use Rattle.lt_definitions.proofs.TypeLaws.{typed_terms_have_no_loose_names}
-use Rattle.lt_definitions.proofs.typing_laws.typed_terms_have_no_loose_names.Goals as goal
-
-pub returns : goal.returns
-returns c = typed_terms_have_no_loose_names

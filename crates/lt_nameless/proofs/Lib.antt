@@ -1,0 +1,23 @@
+-- The lemmas behind the laws, those that others cite first.
+pub mod Alphas
+pub mod BindingLemmas
+pub mod Typings
+pub mod NamelessTyping
+pub mod NamelessSteps
+pub mod NamelessBooleans
+pub mod Closings
+pub mod AlphaLaws
+pub mod Outcomes
+pub mod Substitutions
+pub mod TypeLaws
+pub mod Matching
+pub mod StatementTypes
+pub mod BooleanSteps
+pub mod Derived
+pub mod MoreStatements
+pub mod MoreDeclarations
+pub mod LaterItems
+pub mod Refusals
+pub mod ClosedForms
+pub mod ClosedSteps
+pub mod PrintingLemmas

@@ -1,0 +1,168 @@
+-- Rules over nameless terms keep sequents boolean, since they are the rules over named ones.
+use Rattle.std.proofs.Common.{◌≡◌, inl, inr, suc, zero, List, [], ◌∷◌, Some, None, Result, Ok, Err, map, refl, sym, ◌∙◌, ap, subst, arith}
+use Rattle.std.specs.List.{All}
+use Rattle.lt_definitions.specs.Types.{Chars, same_name, TypeTree, bool, found}
+use Rattle.lt_definitions.specs.Terms.{TermTree}
+use Rattle.lt_definitions.specs.Typing.{Signature, Fault, type_fault, HasType}
+use Rattle.lt_definitions.specs.Rules.{Sequent, Rule, by_assume, by_weaken, by_refl, by_sym, by_trans, by_cong, by_abs, by_beta, by_eta, by_eqmp, by_impI, by_mp, by_allI, by_allE, by_iff, by_inst, by_tinst, by_select, by_ccontr, by_thm, Outcome, step}
+use Rattle.lt_definitions.specs.Derivations.{fault_of, rule_fault}
+use Rattle.lt_nameless.specs.Booleans.{IsSoundSignature, IsBoolean, IsBooleanSequent}
+use Rattle.lt_nameless.specs.Nameless.{Nameless, nameless, named, NamelessSequent, nameless_sequent}
+use Rattle.lt_nameless.specs.NamelessRules.{nameless_typed, nameless_fault, nameless_rule_fault, NamelessRule, line_assume, line_weaken, line_refl, line_sym, line_trans, line_cong, line_abs, line_beta, line_eta, line_eqmp, line_impI, line_mp, line_allI, line_allE, line_iff, line_inst, line_tinst, line_select, line_ccontr, line_thm, nameless_rule, nameless_step, nameless_outcome, nameless_statements, IsBooleanNameless, IsBooleanNamelessSequent}
+use Rattle.lt_definitions.proofs.SameNames.{bool_cases}
+use Rattle.lt_nameless.proofs.Typings.{typed-has, has-typed}
+use Rattle.lt_nameless.proofs.NamelessTyping.{typed-nameless}
+use Rattle.lt_nameless.proofs.NamelessSteps.{step_is_nameless, faults_are_nameless}
+use Rattle.lt_nameless.proofs.ClosedForms.{nameless_of_named}
+use Rattle.lt_nameless.proofs.ClosedSteps.{typed-whole, both-none}
+use Rattle.lt_nameless.proofs.BooleanSteps.{rules_keep_booleans}
+use Rattle.lt_nameless.proofs.BindingLemmas.{if-true, if-false}
+
+-- the named reading of a typed nameless term
+
+back : (sig : Signature) (n : Nameless) (ty : TypeTree) → nameless_typed sig [] n ≡ Ok ty → nameless [] (named 0 n) ≡ n
+back sig n ty e = nameless_of_named n (typed-whole sig [] n ty e)
+
+back-typed : (sig : Signature) (n : Nameless) (ty : TypeTree) → nameless_typed sig [] n ≡ Ok ty → HasType sig [] (named 0 n) ty
+back-typed sig n ty e = typed-has sig [] (named 0 n) ty (typed-nameless sig [] (named 0 n) ∙ ap (nameless_typed sig []) (back sig n ty e) ∙ e)
+
+has_some : (r : Result TypeTree Fault) → fault_of r ≡ None → (ty : TypeTree) × (r ≡ Ok ty)
+has_some (Ok ty) e = (ty, refl)
+has_some (Err f) e = absurd (cc e)
+
+back-sound : (sig : Signature) (n : Nameless) → nameless_fault sig n ≡ None → nameless [] (named 0 n) ≡ n
+back-sound sig n e = let h = has_some (nameless_typed sig [] n) e in back sig n h.0 h.1
+
+-- of lines
+
+abbrev named_rule : NamelessRule → Rule
+named_rule (line_assume p) = by_assume (named 0 p)
+named_rule (line_weaken p i) = by_weaken (named 0 p) i
+named_rule (line_refl t) = by_refl (named 0 t)
+named_rule (line_sym i) = by_sym i
+named_rule (line_trans i j) = by_trans i j
+named_rule (line_cong i j) = by_cong i j
+named_rule (line_abs x ty i) = by_abs x ty i
+named_rule (line_beta t) = by_beta (named 0 t)
+named_rule (line_eta t) = by_eta (named 0 t)
+named_rule (line_eqmp i j) = by_eqmp i j
+named_rule (line_impI p i) = by_impI (named 0 p) i
+named_rule (line_mp i j) = by_mp i j
+named_rule (line_allI x ty i) = by_allI x ty i
+named_rule (line_allE t i) = by_allE (named 0 t) i
+named_rule (line_iff i j) = by_iff i j
+named_rule (line_inst x ty t i) = by_inst x ty (named 0 t) i
+named_rule (line_tinst a ty i) = by_tinst a ty i
+named_rule (line_select p) = by_select (named 0 p)
+named_rule (line_ccontr p) = by_ccontr (named 0 p)
+named_rule (line_thm l) = by_thm l
+
+back-rule : (sig : Signature) (line : NamelessRule) → nameless_rule_fault sig line ≡ None → nameless_rule (named_rule line) ≡ line
+back-rule sig (line_assume p) e = ap line_assume (back-sound sig p e)
+back-rule sig (line_weaken p i) e = ap (λ (n : Nameless). line_weaken n i) (back-sound sig p e)
+back-rule sig (line_refl t) e = ap line_refl (back-sound sig t e)
+back-rule sig (line_beta t) e = ap line_beta (back-sound sig t e)
+back-rule sig (line_eta t) e = ap line_eta (back-sound sig t e)
+back-rule sig (line_impI p i) e = ap (λ (n : Nameless). line_impI n i) (back-sound sig p e)
+back-rule sig (line_allE t i) e = ap (λ (n : Nameless). line_allE n i) (back-sound sig t e)
+back-rule sig (line_inst x ty t i) e =
+    ap (λ (n : Nameless). line_inst x ty n i) (back-sound sig t (both-none (type_fault sig ty) (nameless_fault sig t) e).1)
+back-rule sig (line_select p) e = ap line_select (back-sound sig p e)
+back-rule sig (line_ccontr p) e = ap line_ccontr (back-sound sig p e)
+back-rule sig line e = refl
+
+-- of lists of terms, of sequents and of statements
+
+abbrev Each : {A : Type 0} → (A → Type 0) → List A → Type 0
+Each P [] = Unit {0}
+Each P (x ∷ xs) = P x × Each P xs
+
+each-of : {A : Type 0} (P : A → Type 0) (xs : List A) → All P xs → Each P xs
+each-of P [] h = tt
+each-of P (x ∷ xs) h = (h 0 x (omega arith), each-of P xs (λ k d l. h (suc k) d (omega arith)))
+
+of-each : {A : Type 0} (P : A → Type 0) (xs : List A) → Each P xs → All P xs
+of-each P [] h k d l = absurd (omega arith)
+of-each P (x ∷ xs) h zero d l = h.0
+of-each P (x ∷ xs) h (suc k) d l = of-each P xs h.1 k d (omega arith)
+
+each-map : {A B : Type 0} (P : A → Type 0) (Q : B → Type 0) (f : A → B) → ((x : A) → P x → Q (f x)) → (xs : List A) → Each P xs → Each Q (map f xs)
+each-map P Q f k [] h = tt
+each-map P Q f k (x ∷ xs) h = (k x h.0, each-map P Q f k xs h.1)
+
+-- a map and a way back that undoes it where P holds
+map-back : {A B : Type 0} (P : A → Type 0) (f : A → B) (g : B → A) → ((x : A) → P x → g (f x) ≡ x) → (xs : List A) → Each P xs → map g (map f xs) ≡ xs
+map-back P f g k [] h = refl
+map-back P f g k (x ∷ xs) h = λ i. k x h.0 i ∷ map-back P f g k xs h.1 i
+
+abbrev named_sequent : NamelessSequent → Sequent
+named_sequent s = record { hyps = map (named 0) s.hyps; concl = named 0 s.concl }
+
+back-sequent : (sig : Signature) (s : NamelessSequent) → IsBooleanNamelessSequent sig s → nameless_sequent (named_sequent s) ≡ s
+back-sequent sig s h =
+    let hyps : map (nameless []) (map (named 0) s.hyps) ≡ s.hyps =
+    map-back (IsBooleanNameless sig) (named 0) (nameless []) (λ n e. back sig n bool e) s.hyps (each-of (IsBooleanNameless sig) s.hyps h.hyps) in
+    λ i. record { hyps = hyps i; concl = back sig s.concl bool h.concl i }
+
+boolean-sequent : (sig : Signature) (s : NamelessSequent) → IsBooleanNamelessSequent sig s → IsBooleanSequent sig (named_sequent s)
+boolean-sequent sig s h = record {
+  hyps = of-each (IsBoolean sig) (map (named 0) s.hyps)
+      (each-map (IsBooleanNameless sig) (IsBoolean sig) (named 0) (λ n e. back-typed sig n bool e) s.hyps (each-of (IsBooleanNameless sig) s.hyps h.hyps));
+  concl = back-typed sig s.concl bool h.concl;
+}
+
+abbrev IsStated : Signature → Chars × Nameless → Type 0
+IsStated sig p = IsBooleanNameless sig p.1
+
+abbrev named_statements : List (Chars × Nameless) → List (Chars × TermTree)
+named_statements ps = map (λ p. (p.0, named 0 p.1)) ps
+
+back-statements : (sig : Signature) (ps : List (Chars × Nameless)) → Each (IsStated sig) ps → nameless_statements (named_statements ps) ≡ ps
+back-statements sig [] h = refl
+back-statements sig (p ∷ ps) h = λ i. (p.0, back sig p.1 bool h.0 i) ∷ back-statements sig ps h.1 i
+
+-- what is found among boolean statements is boolean
+each-found : {A : Type 0} (P : A → Type 0) (ps : List (Chars × A)) → Each (λ (p : Chars × A). P p.1) ps → (l : Chars) (v : A) → found l ps ≡ Some v → P v
+each-found P [] h l v e = absurd (cc e)
+each-found P (p ∷ ps) h l v e = elim (bool_cases (same_name l p.0)) [
+  | inl k ↦ let some : Some p.1 ≡ Some v = sym (if-true (same_name l p.0) (Some p.1) (found l ps) k) ∙ e in
+      let same : p.1 ≡ v = cc some in subst P same h.0
+  | inr k ↦ each-found P ps h.1 l v (sym (if-false (same_name l p.0) (Some p.1) (found l ps) k) ∙ e)
+]
+
+-- from named sequents to nameless ones
+
+nameless-boolean : (sig : Signature) (t : TermTree) → IsBoolean sig t → IsBooleanNameless sig (nameless [] t)
+nameless-boolean sig t h = sym (typed-nameless sig [] t) ∙ has-typed sig [] t bool h
+
+nameless-sequent-boolean : (sig : Signature) (s : Sequent) → IsBooleanSequent sig s → IsBooleanNamelessSequent sig (nameless_sequent s)
+nameless-sequent-boolean sig s h = record {
+  hyps = of-each (IsBooleanNameless sig) (map (nameless []) s.hyps)
+      (each-map (IsBoolean sig) (IsBooleanNameless sig) (nameless []) (nameless-boolean sig) s.hyps (each-of (IsBoolean sig) s.hyps h.hyps));
+  concl = nameless-boolean sig s.concl h.concl;
+}
+
+outcome-ok : (o : Outcome) (s : NamelessSequent) → nameless_outcome o ≡ Ok s → (u : Sequent) × (o ≡ Ok u) × (nameless_sequent u ≡ s)
+outcome-ok (Ok u) s e = (u, refl, let same : nameless_sequent u ≡ s = cc e in same)
+outcome-ok (Err r) s e = absurd (cc e)
+
+pub nameless_rules_keep_booleans : (sig : Signature) (stored : List (Chars × Nameless)) (done : List NamelessSequent) (line : NamelessRule) (s : NamelessSequent)
+    → IsSoundSignature sig → All (λ p. IsBooleanNameless sig p.1) stored → All (IsBooleanNamelessSequent sig) done
+    → nameless_rule_fault sig line ≡ None → nameless_step sig stored done line ≡ Ok s → IsBooleanNamelessSequent sig s
+nameless_rules_keep_booleans sig stored done line s h n d t e =
+    let stated : Each (IsStated sig) stored = each-of (IsStated sig) stored n in
+    let goals : Each (IsBooleanNamelessSequent sig) done = each-of (IsBooleanNamelessSequent sig) done d in
+    let sound : rule_fault sig (named_rule line) ≡ None =
+    faults_are_nameless sig (named_rule line) ∙ ap (nameless_rule_fault sig) (back-rule sig line t) ∙ t in
+    let same : nameless_outcome (step sig (named_statements stored) (map named_sequent done) (named_rule line)) ≡ Ok s =
+    step_is_nameless sig (named_statements stored) (map named_sequent done) (named_rule line) sound
+    ∙ (λ i. nameless_step sig (back-statements sig stored stated i)
+    (map-back (IsBooleanNamelessSequent sig) named_sequent nameless_sequent (back-sequent sig) done goals i) (back-rule sig line t i))
+    ∙ e in
+    let u = outcome-ok (step sig (named_statements stored) (map named_sequent done) (named_rule line)) s same in
+    let boolean : IsBooleanSequent sig u.0 = rules_keep_booleans sig (named_statements stored) (map named_sequent done) (named_rule line) u.0 h
+    (each-found (IsBoolean sig) (named_statements stored)
+    (each-map (IsStated sig) (λ (p : Chars × TermTree). IsBoolean sig p.1) (λ (p : Chars × Nameless). (p.0, named 0 p.1)) (λ p k. back-typed sig p.1 bool k) stored stated))
+    (of-each (IsBooleanSequent sig) (map named_sequent done)
+    (each-map (IsBooleanNamelessSequent sig) (IsBooleanSequent sig) named_sequent (boolean-sequent sig) done goals)) sound u.1 in
+    subst (IsBooleanNamelessSequent sig) u.2 (nameless-sequent-boolean sig u.0 boolean)

@@ -1,0 +1,5 @@
+use Rattle.lt_nameless.proofs.NamelessSteps.{step_respects_alpha}
+use Rattle.lt_nameless.proofs.rule_laws.step_respects_alpha.Goals as goal
+
+pub returns : goal.returns
+returns c = step_respects_alpha

@@ -1,0 +1,6 @@
+//! Definitions of tokens, texts and walks, and laws over them.
+#![tactic(auto)]
+
+pub mod lexical;
+pub mod plain_texts;
+pub mod walks;
