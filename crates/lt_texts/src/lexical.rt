@@ -64,13 +64,13 @@ pub enum Lexed {
 }
 
 /// The token that is found at the front of a text is the longest front that is spelt as a token, and is spelt as no other kind; where none is found, no front is.
-#[tactic(auto, using(crate::proofs::Longest::longest_found))]
+#[tactic(auto, using(crate::proofs::TokenEnds::longest_found))]
 pub fn tokens_are_longest()
     ensures { (text : List ℕ) → MatchOption (token_at text) (NoToken text) (λ t. IsLongest text t) }
 {}
 
 /// What is spelt as a token is found as that token where what follows doesn't go on it.
-#[tactic(auto, using(crate::proofs::Longest::spelt_found))]
+#[tactic(auto, using(crate::proofs::TokenEnds::spelt_found))]
 pub fn spelt_tokens_are_found()
     ensures { (kind : TokenKind) (word rest : List ℕ) → is_spelt kind word ≡ true → stops kind rest ≡ true → token_at (word ++ rest) ≡ Some (record { kind = kind; spelling = word; rest = rest }) }
 {}
@@ -81,7 +81,7 @@ pub fn gaps_are_longest()
 {}
 
 /// A text is shorter behind each of its tokens.
-#[tactic(auto, using(crate::proofs::Shorter::token_shortens))]
+#[tactic(auto, using(crate::proofs::TokenTexts::token_shortens))]
 pub fn tokens_take_characters()
     ensures { (s : Left) → IsToken (lexed s) → length (after s).ahead < length s.ahead }
 {}
@@ -92,7 +92,7 @@ pub fn spelt_tokens_are_read()
 {}
 
 /// Of a text that encodes characters, all of them are ahead.
-#[tactic(auto, using(crate::proofs::Nearest::all_ahead))]
+#[tactic(auto, using(crate::proofs::NextTokens::all_ahead))]
 pub fn encoded_characters_are_ahead()
     ensures { (cs : List ℕ) → all_scalars cs ≡ true → left_of (encode_utf8_all cs) ≡ record { source = encode_utf8_all cs; ahead = cs } }
 {}

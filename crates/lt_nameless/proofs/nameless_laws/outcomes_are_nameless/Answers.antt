@@ -1,5 +1,5 @@
-use Rattle.lt_definitions.proofs.Outcomes.{outcomes_are_nameless}
-use Rattle.lt_definitions.proofs.nameless_laws.outcomes_are_nameless.Goals as goal
+use Rattle.lt_nameless.proofs.Outcomes.{outcomes_are_nameless}
+use Rattle.lt_nameless.proofs.nameless_laws.outcomes_are_nameless.Goals as goal
 
 pub returns : goal.returns
 returns c = outcomes_are_nameless
