@@ -1,10 +1,12 @@
 -- Items of a plain theory, and what each declares and states.
 -- Source: definitions and typedefs as in Gordon's HOL; the items, their names and labels are this project's own.
 use Rattle.std.specs.Prelude.{ℕ, List, [], ◌∷◌, ◌++◌, if◌then◌else◌, ◌&&◌, map, length, Option, Some, None, Result, Ok, codes}
-use Rattle.lt_definitions.specs.Types.{Chars, same_name, TypeTree, type_variable, type_constructor, no_types, type_and, bool, fun, row, same_type, type_variables}
+use Rattle.std.specs.Option.{option_and_then}
+use Rattle.std.specs.Result.{result_ok}
+use Rattle.lt_definitions.specs.Types.{Chars, TypeTree, type_variable, type_constructor, no_types, type_and, bool, fun, row, same_type, type_variables}
 use Rattle.lt_definitions.specs.Terms.{TermTree, bound_name, constant, application, abstraction, equation, implies, for_all}
 use Rattle.lt_definitions.specs.Typing.{Signature, built_in, Fault, typed}
-use Rattle.lt_definitions.specs.Rules.{Rule}
+use Rattle.lt_definitions.specs.Rules.{Rule, predicate_over}
 
 -- An item: a type, a constant, an axiom, a definition, a typedef or a lemma with its derivation.
 pub data Item : Type 0 where
@@ -71,13 +73,20 @@ rep_statement new raw p b = let x : TermTree = bound_name (codes "a") in
 
 -- all a. A (B a) = a
 abbrev pub rep_inverse_statement : TypeTree → TypeTree → Chars → Chars → TermTree
-rep_inverse_statement new raw a b = let x : TermTree = bound_name (codes "a") in
-    for_all new (abstraction (codes "a") new (equation new (application (declared a (fun raw new)) (application (declared b (fun new raw)) x)) x))
+rep_inverse_statement new raw a b =
+    let x : TermTree = bound_name (codes "a") in
+    let abs : TermTree = declared a (fun raw new) in
+    let rep : TermTree = declared b (fun new raw) in
+    for_all new (abstraction (codes "a") new (equation new (application abs (application rep x)) x))
 
 -- all r. P r --> B (A r) = r
 abbrev pub abs_inverse_statement : TypeTree → TypeTree → TermTree → Chars → Chars → TermTree
-abs_inverse_statement new raw p a b = let x : TermTree = bound_name (codes "r") in
-    for_all raw (abstraction (codes "r") raw (implies (application p x) (equation raw (application (declared b (fun new raw)) (application (declared a (fun raw new)) x)) x)))
+abs_inverse_statement new raw p a b =
+    let x : TermTree = bound_name (codes "r") in
+    let abs : TermTree = declared a (fun raw new) in
+    let rep : TermTree = declared b (fun new raw) in
+    for_all raw (abstraction (codes "r") raw
+    (implies (application p x) (equation raw (application rep (application abs x)) x)))
 
 -- the three statements with their labels
 abbrev pub typedef_statements : Chars → TypeTree → TypeTree → TermTree → Chars → Chars → List (Chars × TermTree)
@@ -86,9 +95,7 @@ typedef_statements n new raw p a b = (rep_label n, rep_statement new raw p b)
 
 -- the type that a predicate is over, where it has the type of a predicate
 abbrev pub raw_type : Result TypeTree Fault → Option TypeTree
-raw_type (Ok (type_constructor c (type_and raw (type_and to no_types)))) =
-    if same_name c (codes "fun") && same_type to bool then Some raw else None
-raw_type _ = None
+raw_type r = option_and_then predicate_over (result_ok r)
 
 -- A typedef adds its type, its constants B and A, and its three statements.
 abbrev pub with_typedef : Chars → List Chars → TermTree → Chars → Chars → Option TypeTree → Context → Context

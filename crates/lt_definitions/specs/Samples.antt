@@ -1,4 +1,5 @@
--- Small types, terms, statements and theories of which the examples speak.
+-- Small types, terms, statements and theories of which the examples speak. Nothing but examples cites them.
+-- Source: this project's own.
 use Prim.Native.String.{String}
 use Rattle.std.specs.Prelude.{ℕ, List, [], ◌∷◌, ◌++◌, Bool, false, ◌&&◌, Option, Some, None, Result, Ok, Err, codes}
 use Rattle.std.specs.Cmp.Lexicographic.{pointwise}

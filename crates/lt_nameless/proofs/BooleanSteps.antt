@@ -1,20 +1,21 @@
 -- What a rule gives from boolean sequents is a boolean sequent.
 use Rattle.std.proofs.Common.{◌≡◌, ℕ, zero, suc, List, [], ◌∷◌, ◌++◌, Bool, true, false, ◌&&◌, not, if◌then◌else◌, map, slice_get, Option, Some, None, Result, Ok, Err, codes, refl, sym, ◌∙◌, ap, subst, arith}
 use Rattle.std.specs.List.{All, list_any}
-use Rattle.std.specs.Result.{result_unwrap_or}
+use Rattle.std.specs.Result.{result_ok, result_unwrap_or}
 use Rattle.std.proofs.lemmas.Bool.{not-true}
+use Rattle.lt_definitions.specs.Items.{Item, empty, context_of}
 use Rattle.lt_definitions.specs.Types.{Chars, same_name, found, TypeTree, TypeMap, type_variable, type_constructor, no_types, type_and, bool, fun, row, same_type}
 use Rattle.lt_definitions.specs.Terms.{TermTree, bound_name, constant, application, abstraction, equation, implies, for_all, some_of, falsity, has_free, has_loose, term_instance}
 use Rattle.lt_definitions.specs.Typing.{Signature, built_in, Fault, earlier, type_fault, types_fault, at_types, applied_type, typed, HasType, is_of_type, has_type}
 use Rattle.lt_definitions.specs.Alpha.{AreAlpha, is_alpha}
 use Rattle.lt_definitions.specs.Binding.{opened, replaced, new_binder, closed_over}
-use Rattle.lt_definitions.specs.Rules.{Sequent, Rule, by_assume, by_weaken, by_refl, by_sym, by_trans, by_cong, by_abs, by_beta, by_eta, by_eqmp, by_impI, by_mp, by_allI, by_allE, by_iff, by_inst, by_tinst, by_select, by_ccontr, by_thm, has_term, union, without, distinct, Outcome, gives, where_holds, with_found, line_at, as_equation, as_implication, as_forall, at_argument, beta_of, eta_of, type_of, predicate_over, joined_type, ok_of, selection, step}
+use Rattle.lt_definitions.specs.Rules.{Sequent, Rule, by_assume, by_weaken, by_refl, by_sym, by_trans, by_cong, by_abs, by_beta, by_eta, by_eqmp, by_impI, by_mp, by_allI, by_allE, by_iff, by_inst, by_tinst, by_select, by_ccontr, by_thm, has_term, union, without, distinct, Outcome, gives, where_holds, with_found, line_at, as_equation, as_implication, as_forall, at_argument, beta_of, eta_of, type_of, predicate_over, joined_type, selection, step}
 use Rattle.lt_definitions.specs.declared.reason.Reason.{Reason}
 use Rattle.lt_definitions.specs.declared.reason.Reason.TheVariants.{MissingLine, NotBool, NotEquation, MiddleDiffers, TypeDiffers, VariableInHypothesis, NotRedex, NotImplication, NotForall, UnknownLabel}
 use Rattle.lt_definitions.specs.Derivations.{Derives, rule_fault, term_fault, IsPartOf}
 use Rattle.lt_nameless.specs.Booleans.{IsSoundSignature, IsBoolean, IsBooleanSequent, AreBooleanStatements}
 use Rattle.lt_nameless.specs.NamelessRules.{nameless_typed}
-use Rattle.lt_definitions.specs.Theory.{Item, empty, context_of, IsPlainTheory}
+use Rattle.lt_definitions.specs.Theory.{IsPlainTheory}
 use Rattle.lt_definitions.proofs.SameNames.{true-false, both-true, name-true, type-true}
 use Rattle.lt_nameless.proofs.Alphas.{alpha-nameless, alpha-is}
 use Rattle.lt_nameless.proofs.Typings.{typed-has, has-typed, applied-ok}
@@ -218,7 +219,7 @@ typed-as sig t e =
     let h = typed-of sig t e in
     subst (λ (u : TypeTree). HasType sig [] t u) (sym (ap (λ r. result_unwrap_or r bool) (has-typed sig [] t h.0 h.1))) h.1
 
-joined-ok : (r : Result TypeTree Fault) (ty : TypeTree) → ok_of r ≡ Some ty → r ≡ Ok ty
+joined-ok : (r : Result TypeTree Fault) (ty : TypeTree) → result_ok r ≡ Some ty → r ≡ Ok ty
 joined-ok (Ok u) ty e = let same : u ≡ ty = cc e in ap ok_type same
 joined-ok (Err f) ty e = absurd (cc e)
 

@@ -4,7 +4,7 @@ use Rattle.std.specs.List.{list_any}
 use Rattle.std.proofs.lemmas.Bool.Decides.{nat_tests}
 use Rattle.lt_definitions.specs.Types.{Chars, same_name, found, TypeTree, TypeMap, bool, fun, same_type}
 use Rattle.lt_definitions.specs.Typing.{Signature, Fault, earlier, type_fault, with_ok, unless, bound_type, applied_type}
-use Rattle.lt_definitions.specs.Derivations.{fault_of, rule_fault}
+use Rattle.lt_definitions.specs.Derivations.{rule_fault}
 use Rattle.lt_definitions.specs.Rules.{where_holds, with_found, line_at, joined_type, predicate_over, Rule}
 use Rattle.lt_definitions.specs.declared.reason.Reason.{Reason}
 use Rattle.lt_definitions.specs.declared.reason.Reason.TheVariants.{MissingLine, NotBool, NotEquation, MiddleDiffers, TypeDiffers, VariableInHypothesis, NotRedex, NotImplication, NotForall, UnknownLabel}

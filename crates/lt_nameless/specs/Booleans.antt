@@ -1,4 +1,5 @@
 -- Sequents of boolean terms, and the signatures over which each rule keeps them so.
+-- Source: this project's own.
 use Rattle.std.specs.Prelude.{◌≡◌, List, [], Some, None}
 use Rattle.std.specs.List.{All}
 use Rattle.lt_definitions.specs.Types.{Chars, TypeTree, bool, found}

@@ -2,7 +2,7 @@
 -- rules over named terms is a law.
 -- Source: de Bruijn, for the operations; the rules are those of Rules.
 use Rattle.std.specs.Prelude.{◌≡◌, ℕ, zero, suc, List, [], ◌∷◌, ◌++◌, Bool, false, ◌&&◌, ◌||◌, not, if◌then◌else◌, filter, map, slice_get, nat_eq, Option, Some, None, Result, Ok, Err, codes}
-use Rattle.std.specs.Result.{result_unwrap_or}
+use Rattle.std.specs.Result.{result_unwrap_or, result_err}
 use Rattle.std.specs.List.{All, list_any}
 use Rattle.lt_definitions.specs.Types.{Chars, same_name, found, TypeTree, TypeMap, bool, fun, row, same_type, same_types, type_instance}
 use Rattle.lt_definitions.specs.Terms.{TermTree}
@@ -10,7 +10,6 @@ use Rattle.lt_definitions.specs.Typing.{Signature, Fault, earlier, unbound, type
 use Rattle.lt_definitions.specs.Rules.{Rule, rule_map, by_assume, by_weaken, by_refl, by_sym, by_trans, by_cong, by_abs, by_beta, by_eta, by_eqmp, by_impI, by_mp, by_allI, by_allE, by_iff, by_inst, by_tinst, by_select, by_ccontr, by_thm, Outcome, where_holds, with_found, with_line, with_lines, joined_type, predicate_over}
 use Rattle.lt_definitions.specs.declared.reason.Reason.{Reason}
 use Rattle.lt_definitions.specs.declared.reason.Reason.TheVariants.{NotBool, NotEquation, MiddleDiffers, TypeDiffers, VariableInHypothesis, NotRedex, NotImplication, NotForall, UnknownLabel}
-use Rattle.lt_definitions.specs.Derivations.{fault_of}
 use Rattle.lt_nameless.specs.Nameless.{Nameless, nameless_free, nameless_bound, nameless_loose, nameless_constant, nameless_application, nameless_abstraction, nameless, NamelessSequent, nameless_sequent, IsWhole}
 
 -- a term without loose indices put for the index that belongs to no binder, under d binders
@@ -157,7 +156,7 @@ nameless_rule = rule_map (nameless [])
 
 -- the first fault of a term under no binder
 abbrev pub nameless_fault : Signature → Nameless → Option Fault
-nameless_fault sig t = fault_of (nameless_typed sig [] t)
+nameless_fault sig t = result_err (nameless_typed sig [] t)
 
 -- A sequent, or the first reason why there is none.
 abbrev pub NamelessOutcome : Type 0
