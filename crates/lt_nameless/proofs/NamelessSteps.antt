@@ -114,16 +114,6 @@ step_is_nameless sig named done (by_ccontr p) t = through_holds _ _ _ _ _ (has_t
 step_is_nameless sig named done (by_thm l) t =
     through_found UnknownLabel (nameless []) (found l named) _ _ _ (found-nameless l named) (λ p. refl)
 
-pub step_respects_alpha : (sig : Signature) (named also_named : List (Chars × TermTree)) (done also_done : List Sequent) (line also_line : Rule TermTree)
-    → nameless_statements named ≡ nameless_statements also_named → map nameless_sequent done ≡ map nameless_sequent also_done
-    → nameless_rule line ≡ nameless_rule also_line → rule_fault sig (term_fault sig) line ≡ None → rule_fault sig (term_fault sig) also_line ≡ None
-    → IsAlphaEqualOutcome (step sig named done line) (step sig also_named also_done also_line)
-step_respects_alpha sig named also_named done also_done line also_line e f g t u =
-    (outcomes_are_nameless (step sig named done line) (step sig also_named also_done also_line)).1
-    (step_is_nameless sig named done line t
-    ∙ (λ i. nameless_step sig (e i) (f i) (g i))
-    ∙ sym (step_is_nameless sig also_named also_done also_line u))
-
 fault-nameless : (sig : Signature) (t : TermTree) → term_fault sig t ≡ nameless_fault sig (nameless [] t)
 fault-nameless sig t = ap result_err (typed-nameless sig [] t)
 

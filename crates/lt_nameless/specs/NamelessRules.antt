@@ -36,7 +36,8 @@ nameless_replaced x ty by (nameless_free y u) = if same_name x y && same_type ty
 nameless_replaced x ty by (nameless_bound i) = nameless_bound i
 nameless_replaced x ty by (nameless_loose y) = nameless_loose y
 nameless_replaced x ty by (nameless_constant c ts) = nameless_constant c ts
-nameless_replaced x ty by (nameless_application f a) = nameless_application (nameless_replaced x ty by f) (nameless_replaced x ty by a)
+nameless_replaced x ty by (nameless_application f a) =
+    nameless_application (nameless_replaced x ty by f) (nameless_replaced x ty by a)
 nameless_replaced x ty by (nameless_abstraction u b) = nameless_abstraction u (nameless_replaced x ty by b)
 
 -- types put for type variables
@@ -78,8 +79,10 @@ nameless_typed sig tys (nameless_free x ty) = unless (type_fault sig ty) (Ok ty)
 nameless_typed sig tys (nameless_bound i) = bound_type [] (slice_get tys i)
 nameless_typed sig tys (nameless_loose x) = Err (unbound x)
 nameless_typed sig tys (nameless_constant c ts) = constant_type sig c ts (found c sig.consts)
-nameless_typed sig tys (nameless_application f a) = with_ok (nameless_typed sig tys f) (λ t. with_ok (nameless_typed sig tys a) (λ u. applied_type t u))
-nameless_typed sig tys (nameless_abstraction ty b) = unless (type_fault sig ty) (with_ok (nameless_typed sig (ty ∷ tys) b) (λ u. Ok (fun ty u)))
+nameless_typed sig tys (nameless_application f a) =
+    with_ok (nameless_typed sig tys f) (λ t. with_ok (nameless_typed sig tys a) (λ u. applied_type t u))
+nameless_typed sig tys (nameless_abstraction ty b) =
+    unless (type_fault sig ty) (with_ok (nameless_typed sig (ty ∷ tys) b) (λ u. Ok (fun ty u)))
 
 -- whether a term under no binder has the type
 abbrev pub nameless_has_type : Signature → Nameless → TypeTree → Bool
@@ -107,7 +110,8 @@ nameless_falsity = nameless_for_all bool (nameless_abstraction bool (nameless_bo
 
 -- all x. p x --> p (eps p)
 abbrev pub nameless_selection : TypeTree → Nameless → Nameless
-nameless_selection ty p = nameless_for_all ty (nameless_abstraction ty (nameless_implies (nameless_application p (nameless_bound 0))
+nameless_selection ty p = nameless_for_all ty (nameless_abstraction ty
+    (nameless_implies (nameless_application p (nameless_bound 0))
     (nameless_application p (nameless_application (nameless_constant (codes "eps") (ty ∷ [])) p))))
 
 -- the type and the sides of an equation
@@ -118,12 +122,14 @@ nameless_as_equation _ = None
 
 -- the sides of an implication
 abbrev pub nameless_as_implication : Nameless → Option (Nameless × Nameless)
-nameless_as_implication (nameless_application (nameless_application (nameless_constant c []) p) q) = if same_name c (codes "imp") then Some (p, q) else None
+nameless_as_implication (nameless_application (nameless_application (nameless_constant c []) p) q) =
+    if same_name c (codes "imp") then Some (p, q) else None
 nameless_as_implication _ = None
 
 -- the type and the predicate of an all
 abbrev pub nameless_as_forall : Nameless → Option (TypeTree × Nameless)
-nameless_as_forall (nameless_application (nameless_constant c (ty ∷ [])) p) = if same_name c (codes "all") then Some (ty, p) else None
+nameless_as_forall (nameless_application (nameless_constant c (ty ∷ [])) p) =
+    if same_name c (codes "all") then Some (ty, p) else None
 nameless_as_forall _ = None
 
 -- an abstraction opened by the argument, or else the application to it
@@ -224,7 +230,8 @@ nameless_cong_gives done i j = with_lines done i j applied_both
 -- from H |- s = t: H |- (\x. s) = (\x. t)
 abbrev pub abstracted_both : Chars → TypeTree → NamelessSequent → NamelessOutcome
 abstracted_both x ty s = with_found NotEquation (nameless_as_equation s.concl) (λ e.
-    where_holds (not (list_any (nameless_has_free x ty) s.hyps)) VariableInHypothesis (nameless_gives s.hyps (nameless_equation (fun ty e.0)
+    where_holds (not (list_any (nameless_has_free x ty) s.hyps)) VariableInHypothesis
+    (nameless_gives s.hyps (nameless_equation (fun ty e.0)
     (nameless_abstraction ty (abstracted 0 x ty e.1)) (nameless_abstraction ty (abstracted 0 x ty e.2)))))
 
 abbrev pub nameless_abs_gives : List NamelessSequent → Chars → TypeTree → ℕ → NamelessOutcome

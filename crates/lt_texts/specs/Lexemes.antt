@@ -34,6 +34,6 @@ abbrev pub Spans : Left → List Lexeme → Left → Type 0
 Spans s [] s' = s' ≡ s
 Spans s (w ∷ ws) s' = IsNextLexeme s w × Spans (after s) ws s'
 
--- the text is these lexemes, and nothing in it is no token
+-- the text is these lexemes from its begin to its end
 abbrev pub HasLexemes : List ℕ → List Lexeme → Type 0
 HasLexemes text ws = (s : Left) × Spans (left_of text) ws s × (lexed s ≡ End)

@@ -77,7 +77,7 @@ pub data LineText : Type 0 where
   mp_line : ℕ → ℕ → LineText
   thm_line : Chars → LineText
 
--- a number that is at most 2^32 - 1
+-- the lexeme of a number; that of one above 2^32 - 1 stands in no text
 abbrev pub number : ℕ → Lexeme
 number n = a_number (Some n)
 
@@ -88,6 +88,7 @@ line_lexemes (impI_line p i) rest = a_name (codes "impI") ∷ term_lexemes p (nu
 line_lexemes (mp_line i j) rest = a_name (codes "mp") ∷ number i ∷ number j ∷ a_sign Semicolon ∷ rest
 line_lexemes (thm_line l) rest = a_name (codes "thm") ∷ a_name l ∷ a_sign Semicolon ∷ rest
 
+-- the lexemes of lines, and behind them the rest
 abbrev pub lines_lexemes : List LineText → List Lexeme → List Lexeme
 lines_lexemes [] rest = rest
 lines_lexemes (line ∷ lines) rest = line_lexemes line (lines_lexemes lines rest)
@@ -126,10 +127,12 @@ pub data PartText : Type 0 where
   header : PartText
   item : ItemText → PartText
 
+-- the lexemes of a part, and behind them the rest
 abbrev pub part_lexemes : PartText → List Lexeme → List Lexeme
 part_lexemes header rest = a_name (codes "plain") ∷ number 1 ∷ a_sign Semicolon ∷ rest
 part_lexemes (item i) rest = item_lexemes i rest
 
+-- the lexemes of parts, and behind them the rest
 abbrev pub parts_lexemes : List PartText → List Lexeme → List Lexeme
 parts_lexemes [] rest = rest
 parts_lexemes (part ∷ parts) rest = part_lexemes part (parts_lexemes parts rest)

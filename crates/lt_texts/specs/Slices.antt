@@ -1,4 +1,5 @@
--- Tokens as slices of a text.
+-- Tokens as slices of a text, for contracts of what reads one.
+-- Source: this project's own.
 use Rattle.std.specs.Prelude.{◌≡◌, ℕ, ◌<◌, ◌≤◌, true, List, ◌++◌, length, slice_range, chars, IsUtf8}
 use Rattle.lt_texts.specs.declared.lexical.TokenKind.{TokenKind}
 use Rattle.lt_texts.specs.declared.lexical.Token.{Token}

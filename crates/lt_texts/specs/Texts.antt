@@ -1,4 +1,5 @@
 -- What stands next in a text that is read from its begin.
+-- Source: this project's own.
 use Rattle.std.specs.Prelude.{ℕ, ◌-◌, ◌==◌, false, List, [], ◌∷◌, length, take, Option, Some, None, if◌then◌else◌, encode_utf8_all}
 use Rattle.std.specs.Str.{chars}
 use Rattle.std.specs.Str.Lossy.{utf8_valid_len}
@@ -41,6 +42,7 @@ abbrev pub lexed_by : Left → List ℕ → Option Scanned → Lexed
 lexed_by s cs None = BadChar (place_of s cs)
 lexed_by s cs (Some t) = Token (record { kind = t.kind; from = place_of s cs; to = place_of s t.rest })
 
+-- the same, or the end where none is left
 abbrev pub lexed_at : Left → List ℕ → Lexed
 lexed_at s [] = ending s
 lexed_at s (c ∷ cs) = lexed_by s (c ∷ cs) (token_at (c ∷ cs))
@@ -49,6 +51,7 @@ lexed_at s (c ∷ cs) = lexed_by s (c ∷ cs) (token_at (c ∷ cs))
 abbrev pub lexed : Left → Lexed
 lexed s = lexed_at s (past_gap s)
 
+-- behind this token
 abbrev pub after_by : Left → Option Scanned → Left
 after_by s None = s
 after_by s (Some t) = record s { ahead = t.rest }
@@ -57,6 +60,7 @@ after_by s (Some t) = record s { ahead = t.rest }
 abbrev pub after : Left → Left
 after s = after_by s (token_at (past_gap s))
 
+-- the characters of this token
 abbrev pub spelling_by : Option Scanned → List ℕ
 spelling_by None = []
 spelling_by (Some t) = t.spelling
@@ -65,6 +69,7 @@ spelling_by (Some t) = t.spelling
 abbrev pub spelling : Left → List ℕ
 spelling s = spelling_by (token_at (past_gap s))
 
+-- What stands next is a token.
 abbrev pub IsToken : Lexed → Type 0
 IsToken (Token t) = Unit {0}
 IsToken _ = ⊥
