@@ -1,5 +1,6 @@
 -- The characters that tokens are made of, and where a run of characters ends.
--- Source: Unicode Standard Annex 31, for names; white space, comments and numbers are this project's own.
+-- Source: Unicode Standard Annex 31, for names; white space, comments and numbers are this
+-- project's own.
 use Rattle.std.specs.Prelude.{ℕ, ◌==◌, ◌||◌, ◌&&◌, ◌+◌, ◌-◌, ◌*◌, ◌^◌, Bool, not, true, false, List, [], ◌∷◌, Option, Some, None, if◌then◌else◌, nat_lt}
 use Rattle.std.specs.Char.{is_ascii_digit}
 use Rattle.std.specs.List.{list_all}
@@ -30,7 +31,8 @@ more_digits n (c ∷ cs) = more_digits (n * 10 + (c - 48)) cs
 
 -- the value of a numeral that is at most 2^32 - 1
 abbrev pub number_of : List ℕ → Option ℕ
-number_of cs = if is_numeral cs && nat_lt (more_digits 0 cs) (2 ^ 32) then Some (more_digits 0 cs) else None
+number_of cs =
+    if is_numeral cs && nat_lt (more_digits 0 cs) (2 ^ 32) then Some (more_digits 0 cs) else None
 
 -- the longest front whose characters pass
 abbrev pub run_of : (ℕ → Bool) → List ℕ → List ℕ

@@ -16,7 +16,8 @@ AreAlphaEqualSequents _ _ = ⊥
 -- Alpha-equal statements under the same labels, in one order.
 abbrev pub AreAlphaEqualStatements : List (Chars × TermTree) → List (Chars × TermTree) → Type 0
 AreAlphaEqualStatements [] [] = Unit {0}
-AreAlphaEqualStatements (p ∷ ps) (q ∷ qs) = (p.0 ≡ q.0) × IsAlphaEqual p.1 q.1 × AreAlphaEqualStatements ps qs
+AreAlphaEqualStatements (p ∷ ps) (q ∷ qs) =
+    (p.0 ≡ q.0) × IsAlphaEqual p.1 q.1 × AreAlphaEqualStatements ps qs
 AreAlphaEqualStatements _ _ = ⊥
 
 -- a rule without its terms
@@ -25,4 +26,5 @@ without_terms line = rule_map (λ t. tt) line
 
 -- Lines of one rule with the same types, names and numbers, and alpha-equal terms.
 abbrev pub AreAlphaEqualLines : Rule TermTree → Rule TermTree → Type 0
-AreAlphaEqualLines line also = (without_terms line ≡ without_terms also) × AreAlphaEqual (terms_of line) (terms_of also)
+AreAlphaEqualLines line also =
+    (without_terms line ≡ without_terms also) × AreAlphaEqual (terms_of line) (terms_of also)

@@ -24,4 +24,5 @@ pub record IsBooleanSequent (sig : Signature) (s : Sequent) : Type 0 where
 
 -- each named statement is boolean
 abbrev pub AreBooleanStatements : Signature → List (Chars × TermTree) → Type 0
-AreBooleanStatements sig named = (l : Chars) (p : TermTree) → found l named ≡ Some p → IsBoolean sig p
+AreBooleanStatements sig named =
+    (l : Chars) (p : TermTree) → found l named ≡ Some p → IsBoolean sig p

@@ -46,12 +46,15 @@ stops kind (c ∷ cs) = not (goes_on kind c)
 
 -- no front of the text is a token
 abbrev pub NoToken : List ℕ → Type 0
-NoToken text = (kind : TokenKind) (word rest : List ℕ) → text ≡ word ++ rest → is_spelt kind word ≡ true → ⊥
+NoToken text =
+    (kind : TokenKind) (word rest : List ℕ) → text ≡ word ++ rest → is_spelt kind word ≡ true → ⊥
 
--- it is a front of the text and a token of its kind, no longer front is a token, and it is one of no other kind
+-- it is a front of the text and a token of its kind, no longer front is a token, and it is one of
+-- no other kind
 pub record IsLongest (text : List ℕ) (t : Scanned) : Type 0 where
   pub front : text ≡ t.spelling ++ t.rest
   pub spelt : is_spelt t.kind t.spelling ≡ true
-  pub longest : (kind : TokenKind) (word rest : List ℕ) → text ≡ word ++ rest → is_spelt kind word ≡ true
+  pub longest : (kind : TokenKind) (word rest : List ℕ) → text ≡ word ++ rest
+      → is_spelt kind word ≡ true
       → length word ≤ length t.spelling
   pub only : (kind : TokenKind) → is_spelt kind t.spelling ≡ true → kind ≡ t.kind

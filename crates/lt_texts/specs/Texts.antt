@@ -8,7 +8,8 @@ use Rattle.lt_texts.specs.declared.lexical.Lexed.TheVariants.{Token, End, BadByt
 use Rattle.lt_definitions.specs.Characters.{behind_gap}
 use Rattle.lt_texts.specs.Tokens.{Scanned, token_at}
 
--- a text in reading: its bytes, and the characters that are still ahead, up to its end or its first byte that is no UTF-8
+-- a text in reading: its bytes, and the characters that are still ahead, up to its end or its first
+-- byte that is no UTF-8
 pub record Left : Type 0 where
   pub source : List ℕ
   pub ahead : List ℕ
@@ -40,7 +41,8 @@ ending s = if end_of s == length s.source then End else BadByte (end_of s)
 -- where these characters are left
 abbrev pub lexed_by : Left → List ℕ → Option Scanned → Lexed
 lexed_by s cs None = BadChar (place_of s cs)
-lexed_by s cs (Some t) = Token (record { kind = t.kind; from = place_of s cs; to = place_of s t.rest })
+lexed_by s cs (Some t) =
+    Token (record { kind = t.kind; from = place_of s cs; to = place_of s t.rest })
 
 -- the same, or the end where none is left
 abbrev pub lexed_at : Left → List ℕ → Lexed
