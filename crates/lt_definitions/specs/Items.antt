@@ -16,7 +16,7 @@ pub data Item : Type 0 where
   axiom_item : (label : Chars) (statement : TermTree) → Item
   def_item : (name : Chars) (ty : TypeTree) (body : TermTree) → Item
   typedef_item : (name : Chars) (params : List Chars) (predicate : TermTree)
-    (by_label abs rep : Chars) → Item
+      (by_label abs rep : Chars) → Item
   lemma_item : (label : Chars) (statement : TermTree) (lines : List (Rule TermTree)) → Item
 
 -- What the items so far declare and state.
@@ -73,7 +73,8 @@ abs_inverse_label n = n ++ codes "_abs_inverse"
 -- all a. P (B a)
 abbrev pub rep_statement : TypeTree → TypeTree → TermTree → Chars → TermTree
 rep_statement new raw p b = let x : TermTree = bound_name (codes "a") in
-    for_all new (abstraction (codes "a") new (application p (application (declared b (fun new raw)) x)))
+    for_all new (abstraction (codes "a") new
+    (application p (application (declared b (fun new raw)) x)))
 
 -- all a. A (B a) = a
 abbrev pub rep_inverse_statement : TypeTree → TypeTree → Chars → Chars → TermTree

@@ -75,8 +75,10 @@ all_equal ty = for_all ty (lambda "x" ty (equation ty (bound "x") (bound "x")))
 -- the signature of these constants
 abbrev pub samples : Signature
 samples =
-    record built_in { consts = built_in.consts ++ (codes "p", bool) ∷ (codes "q", bool)
-    ∷ (codes "f", fun bool bool) ∷ [] }
+    record built_in {
+      consts = built_in.consts ++ (codes "p", bool) ∷ (codes "q", bool)
+          ∷ (codes "f", fun bool bool) ∷ [];
+    }
 
 -- |- f = f, p --> q, q --> p, all y. f y, all f
 abbrev pub facts : List (Chars × TermTree)

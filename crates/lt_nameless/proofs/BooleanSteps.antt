@@ -18,11 +18,12 @@ use Rattle.lt_nameless.specs.NamelessRules.{nameless_typed}
 use Rattle.lt_definitions.specs.Theory.{IsPlainTheory}
 use Rattle.lt_definitions.proofs.SameNames.{true-false, both-true, name-true, type-true}
 use Rattle.lt_nameless.proofs.Alphas.{alpha-nameless, alpha-is}
-use Rattle.lt_nameless.proofs.Typings.{typed-has, has-typed, applied-ok}
+use Rattle.lt_nameless.proofs.Typings.{typed-has, has-typed, applied-ok, ok_type, ok-inj}
 use Rattle.lt_nameless.proofs.NamelessTyping.{typed-nameless, typed-of}
 use Rattle.lt_nameless.proofs.StatementTypes.{IsSound, found-first, sound-items, sound-empty, more-binders, typed-sound, bool-sound, sound-fun, equation-typed, implies-typed, for_all-typed}
 use Rattle.lt_nameless.proofs.Substitutions.{opened-has, not-loose-has, replaced-has, closed-inner, closed-has, instance-has}
 use Rattle.lt_definitions.proofs.TypingLemmas.{both-none, none-both}
+use Rattle.lt_definitions.proofs.RuleLemmas.{some-if}
 
 -- lists of boolean terms
 
@@ -118,10 +119,6 @@ good-holds sig false r o h = tt
 
 -- the parts of equations, implications and quantified terms
 
-some-if : {A : Type 0} (b : Bool) (x y : A) → (if b then Some x else None) ≡ Some y → (b ≡ true) × (x ≡ y)
-some-if true x y e = (refl, let same : x ≡ y = cc e in same)
-some-if false x y e = absurd (cc e)
-
 equation-is : (t : TermTree) (e : TypeTree × TermTree × TermTree) → as_equation t ≡ Some e → t ≡ equation e.0 e.1 e.2
 equation-is (application (application (constant c (ty ∷ [])) s) t) e q =
     let k = some-if (same_name c (codes "eq")) (ty, s, t) e q in
@@ -191,12 +188,6 @@ forall-side : (sig : Signature) → IsPartOf built_in sig → (t : TermTree) (e 
 forall-side sig b t e h q = for_all-part sig b e.0 e.1 (subst (λ (t : TermTree). HasType sig [] t bool) (forall-is t e q) h)
 
 -- types of terms
-
-abbrev ok_type : TypeTree → Result TypeTree Fault
-ok_type t = Ok t
-
-ok-inj : (x y : TypeTree) → ok_type x ≡ ok_type y → x ≡ y
-ok-inj x y e = cc e
 
 pub typed-alpha : (sig : Signature) (s t : TermTree) → AreAlpha [] s t → typed sig [] s ≡ typed sig [] t
 typed-alpha sig s t h =

@@ -2,7 +2,7 @@
 use Rattle.std.proofs.Common.{◌≡◌, ◌≢◌, ◌↔◌, ◌⊎◌, inl, inr, ℕ, List, [], ◌∷◌, ◌++◌, Bool, true, false, ◌&&◌, ◌||◌, not, if◌then◌else◌, Option, Some, None, is_some, is_none, Result, Ok, Err, codes, refl, sym, ◌∙◌, ap, subst}
 use Rattle.std.specs.List.{find}
 use Rattle.std.specs.Result.{result_err}
-use Rattle.std.proofs.lemmas.Bool.{not-false}
+use Rattle.std.proofs.lemmas.Bool.{not-false, or_cases, or_left, or_right}
 use Rattle.lt_definitions.specs.Items.{Item, type_item, const_item, axiom_item, def_item, typedef_item, lemma_item, Context, definition_label, rep_label, rep_inverse_label, abs_inverse_label, raw_type}
 use Rattle.lt_definitions.specs.Types.{Chars, same_name, has_name, found, TypeTree, type_constructor, no_types, type_and, bool, fun, same_type, type_variables, are_distinct}
 use Rattle.lt_definitions.specs.Terms.{TermTree, application, is_closed, term_variables}
@@ -98,28 +98,18 @@ loose-none (Some a) e = absurd (cc e)
 find-none : (xs ys : List Chars) → find (λ a. not (has_name a ys)) xs ≡ None → AreNamesAmong xs ys
 find-none [] ys e a h = absurd (true-false (sym h))
 find-none (x ∷ xs) ys e a h = elim (bool_cases (has_name x ys)) [
-  | inl t ↦ elim (either (same_name a x) (has_name a xs) h) [
+  | inl t ↦ elim (or_cases (same_name a x) (has_name a xs) h) [
     | inl k ↦ subst (λ (b : Chars). has_name b ys ≡ true) (sym (name-true a x k)) t
     | inr k ↦ find-none xs ys (sym (ap (λ v. if not v then Some x else find (λ a. not (has_name a ys)) xs) t) ∙ e) a k
   ]
   | inr f ↦ let some : Some x ≡ None = sym (ap (λ v. if not v then Some x else find (λ a. not (has_name a ys)) xs) f) ∙ e in absurd (cc some)
-] where
-  either : (a b : Bool) → (a || b) ≡ true → (a ≡ true) ⊎ (b ≡ true)
-  either true b e = inl refl
-  either false b e = inr e
+]
 
 none-find : (xs ys : List Chars) → AreNamesAmong xs ys → find (λ a. not (has_name a ys)) xs ≡ None
 none-find [] ys h = refl
 none-find (x ∷ xs) ys h =
-    ap (λ v. if not v then Some x else find (λ a. not (has_name a ys)) xs) (h x (here (same_name x x) (has_name x xs) (true-name x x refl)))
-    ∙ none-find xs ys (λ a k. h a (there (same_name a x) (has_name a xs) k)) where
-      here : (a b : Bool) → a ≡ true → (a || b) ≡ true
-      here true b e = refl
-      here false b e = absurd (true-false (sym e))
-
-      there : (a b : Bool) → b ≡ true → (a || b) ≡ true
-      there true b e = refl
-      there false b e = e
+    ap (λ v. if not v then Some x else find (λ a. not (has_name a ys)) xs) (h x (or_left (same_name x x) (has_name x xs) (true-name x x refl)))
+    ∙ none-find xs ys (λ a k. h a (or_right (same_name a x) (has_name a xs) k))
 
 variables-is : (allowed : List Chars) (t : TermTree) → variables_test allowed t ≡ None → AreNamesAmong (term_variables t) allowed
 variables-is allowed t e = find-none (term_variables t) allowed (loose-none (find (λ a. not (has_name a allowed)) (term_variables t)) e)

@@ -253,7 +253,8 @@ abbrev pub abstracted_both : Chars → TypeTree → NamelessSequent → Nameless
 abstracted_both x ty s = with_found NotEquation (nameless_as_equation s.concl) (λ e.
     where_holds (not (list_any (nameless_has_free x ty) s.hyps)) VariableInHypothesis
     (nameless_gives s.hyps (nameless_equation (fun ty e.0)
-    (nameless_abstraction ty (abstracted 0 x ty e.1)) (nameless_abstraction ty (abstracted 0 x ty e.2)))))
+    (nameless_abstraction ty (abstracted 0 x ty e.1))
+    (nameless_abstraction ty (abstracted 0 x ty e.2)))))
 
 abbrev pub nameless_abs_gives : List NamelessSequent → Chars → TypeTree → ℕ → NamelessOutcome
 nameless_abs_gives done x ty i = with_line done i (abstracted_both x ty)
@@ -301,7 +302,8 @@ nameless_mp_gives done i j = with_lines done i j detached
 abbrev pub generalised : Chars → TypeTree → NamelessSequent → NamelessOutcome
 generalised x ty s =
     where_holds (not (list_any (nameless_has_free x ty) s.hyps)) VariableInHypothesis
-    (nameless_gives s.hyps (nameless_for_all ty (nameless_abstraction ty (abstracted 0 x ty s.concl))))
+    (nameless_gives s.hyps
+    (nameless_for_all ty (nameless_abstraction ty (abstracted 0 x ty s.concl))))
 
 abbrev pub nameless_allI_gives : List NamelessSequent → Chars → TypeTree → ℕ → NamelessOutcome
 nameless_allI_gives done x ty i = with_line done i (generalised x ty)
@@ -328,7 +330,8 @@ nameless_iff_gives done i j = with_lines done i j both_ways
 -- from H |- p: a term put for a free variable throughout
 abbrev pub put_term : Signature → Chars → TypeTree → Nameless → NamelessSequent → NamelessOutcome
 put_term sig x ty t s = where_holds (nameless_has_type sig t ty) TypeDiffers
-    (nameless_gives (nameless_union [] (map (nameless_replaced x ty t) s.hyps)) (nameless_replaced x ty t s.concl))
+    (nameless_gives (nameless_union [] (map (nameless_replaced x ty t) s.hyps))
+    (nameless_replaced x ty t s.concl))
 
 abbrev pub nameless_inst_gives : Signature → List NamelessSequent → Chars → TypeTree → Nameless
     → ℕ → NamelessOutcome
@@ -336,8 +339,10 @@ nameless_inst_gives sig done x ty t i = with_line done i (put_term sig x ty t)
 
 -- from H |- p: a type put for a type variable throughout, which is never refused
 abbrev pub put_one : Chars → TypeTree → NamelessSequent → NamelessSequent
-put_one a ty s = let m : TypeMap = (a, ty) ∷ [] in
-    record { hyps = nameless_union [] (map (nameless_instance m) s.hyps); concl = nameless_instance m s.concl }
+put_one a ty s = let m : TypeMap = (a, ty) ∷ [] in record {
+  hyps = nameless_union [] (map (nameless_instance m) s.hyps);
+  concl = nameless_instance m s.concl;
+}
 
 abbrev pub nameless_tinst_gives : List NamelessSequent → Chars → TypeTree → ℕ → NamelessOutcome
 nameless_tinst_gives done a ty i = with_line done i (λ s. Ok (put_one a ty s))
@@ -352,7 +357,8 @@ nameless_select_gives sig p =
 abbrev pub nameless_ccontr_gives : Signature → Nameless → NamelessOutcome
 nameless_ccontr_gives sig p =
     where_holds (nameless_has_type sig p bool) NotBool
-    (nameless_gives [] (nameless_implies (nameless_implies (nameless_implies p nameless_falsity) nameless_falsity) p))
+    (nameless_gives []
+    (nameless_implies (nameless_implies (nameless_implies p nameless_falsity) nameless_falsity) p))
 
 -- |- the statement of the label
 abbrev pub nameless_thm_gives : List (Chars × Nameless) → Chars → NamelessOutcome
