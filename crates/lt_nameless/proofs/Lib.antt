@@ -1,5 +1,6 @@
 -- The lemmas behind the laws, those that others cite first.
 pub mod Alphas
+pub mod SameForms
 pub mod BindingLemmas
 pub mod Typings
 pub mod NamelessTyping
@@ -8,6 +9,8 @@ pub mod NamelessBooleans
 pub mod Closings
 pub mod AlphaLaws
 pub mod Outcomes
+pub mod AlphaEqualLineLemmas
+pub mod AlphaSteps
 pub mod Substitutions
 pub mod TypeLaws
 pub mod Matching
@@ -20,4 +23,6 @@ pub mod LaterItems
 pub mod Refusals
 pub mod ClosedForms
 pub mod ClosedSteps
+pub mod NamelessClosings
+pub mod NamelessRuleLemmas
 pub mod PrintingLemmas

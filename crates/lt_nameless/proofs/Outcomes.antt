@@ -1,12 +1,13 @@
 -- Outcomes that are alpha-equal are those with one nameless form.
 use Rattle.std.proofs.Common.{◌≡◌, ◌↔◌, List, [], ◌∷◌, Ok, Err, map, refl, ap}
 use Rattle.lt_definitions.specs.Terms.{TermTree}
-use Rattle.lt_definitions.specs.Rules.{Reason, Outcome, AreAlphaEqual, IsAlphaEqualOutcome}
+use Rattle.lt_definitions.specs.Rules.{Outcome, AreAlphaEqual, IsAlphaEqualOutcome}
+use Rattle.lt_definitions.specs.declared.reason.Reason.{Reason}
 use Rattle.lt_nameless.specs.Nameless.{nameless, NamelessSequent, nameless_sequent}
 use Rattle.lt_nameless.specs.NamelessRules.{NamelessOutcome, nameless_gives, nameless_outcome}
 use Rattle.lt_nameless.proofs.Alphas.{alpha-nameless, nameless-alpha}
 
-equal-forms : (hs ks : List TermTree) → AreAlphaEqual hs ks → map (nameless []) hs ≡ map (nameless []) ks
+pub equal-forms : (hs ks : List TermTree) → AreAlphaEqual hs ks → map (nameless []) hs ≡ map (nameless []) ks
 equal-forms [] [] h = refl
 equal-forms (s ∷ hs) (t ∷ ks) h = λ i. alpha-nameless [] s t h.0 i ∷ equal-forms hs ks h.1 i
 equal-forms hs ks h = absurd h
