@@ -2,7 +2,7 @@
 use Rattle.std.proofs.Common.{◌≡◌, List, [], ◌∷◌, map, refl, sym, ◌∙◌}
 use Rattle.lt_definitions.specs.Types.{Chars}
 use Rattle.lt_definitions.specs.Terms.{TermTree}
-use Rattle.lt_definitions.specs.Rules.{Sequent, AreAlphaEqual, Rule, rule_map, terms_of, by_assume, by_weaken, by_refl, by_sym, by_trans, by_cong, by_abs, by_beta, by_eta, by_eqmp, by_impI, by_mp, by_allI, by_allE, by_iff, by_inst, by_tinst, by_select, by_ccontr, by_thm}
+use Rattle.lt_definitions.specs.Rules.{Sequent, Rule, terms_of, by_assume, by_weaken, by_refl, by_sym, by_trans, by_cong, by_abs, by_beta, by_eta, by_eqmp, by_impI, by_mp, by_allI, by_allE, by_iff, by_inst, by_tinst, by_select, by_ccontr, by_thm}
 use Rattle.lt_nameless.specs.Nameless.{Nameless, nameless_bound, nameless, nameless_sequent}
 use Rattle.lt_nameless.specs.NamelessRules.{nameless_statements, nameless_rule}
 use Rattle.lt_nameless.specs.AlphaEqualLines.{AreAlphaEqualSequents, AreAlphaEqualStatements, without_terms, AreAlphaEqualLines}

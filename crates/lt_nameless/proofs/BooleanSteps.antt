@@ -6,7 +6,7 @@ use Rattle.std.proofs.lemmas.Bool.{not-true}
 use Rattle.lt_definitions.specs.Items.{Item, empty, context_of}
 use Rattle.lt_definitions.specs.Types.{Chars, same_name, found, TypeTree, TypeMap, type_variable, type_constructor, no_types, type_and, bool, fun, row, same_type}
 use Rattle.lt_definitions.specs.Terms.{TermTree, bound_name, constant, application, abstraction, equation, implies, for_all, some_of, falsity, has_free, has_loose, term_instance}
-use Rattle.lt_definitions.specs.Typing.{Signature, built_in, Fault, earlier, type_fault, types_fault, at_types, applied_type, typed, HasType, is_of_type, has_type}
+use Rattle.lt_definitions.specs.Typing.{Signature, built_in, Fault, type_fault, types_fault, at_types, applied_type, typed, HasType, is_of_type, has_type}
 use Rattle.lt_definitions.specs.Alpha.{AreAlpha, is_alpha}
 use Rattle.lt_definitions.specs.Binding.{opened, replaced, new_binder, closed_over}
 use Rattle.lt_definitions.specs.Rules.{Sequent, Rule, by_assume, by_weaken, by_refl, by_sym, by_trans, by_cong, by_abs, by_beta, by_eta, by_eqmp, by_impI, by_mp, by_allI, by_allE, by_iff, by_inst, by_tinst, by_select, by_ccontr, by_thm, has_term, union, without, distinct, Outcome, gives, where_holds, with_found, line_at, as_equation, as_implication, as_forall, at_argument, beta_of, eta_of, type_of, predicate_over, joined_type, selection, step}
@@ -22,7 +22,7 @@ use Rattle.lt_nameless.proofs.Typings.{typed-has, has-typed, applied-ok, ok_type
 use Rattle.lt_nameless.proofs.NamelessTyping.{typed-nameless, typed-of}
 use Rattle.lt_nameless.proofs.StatementTypes.{IsSound, found-first, sound-items, sound-empty, more-binders, typed-sound, bool-sound, sound-fun, equation-typed, implies-typed, for_all-typed}
 use Rattle.lt_nameless.proofs.Substitutions.{opened-has, not-loose-has, replaced-has, closed-inner, closed-has, instance-has}
-use Rattle.lt_definitions.proofs.TypingLemmas.{both-none, none-both}
+use Rattle.lt_definitions.proofs.TypingLemmas.{none-both}
 use Rattle.lt_definitions.proofs.RuleLemmas.{some-if}
 
 -- lists of boolean terms

@@ -1,10 +1,10 @@
 -- What a rule gives from terms whose indices have binders is such a sequent.
-use Rattle.std.proofs.Common.{◌≡◌, inl, inr, ℕ, zero, suc, ◌<◌, ◌≤◌, List, [], ◌∷◌, ◌++◌, Bool, true, false, ◌&&◌, ◌||◌, not, if◌then◌else◌, length, map, nat_eq, slice_get, Option, Some, None, Result, Ok, Err, codes, refl, sym, ◌∙◌, ap, subst, arith}
+use Rattle.std.proofs.Common.{◌≡◌, inl, inr, ℕ, zero, suc, ◌<◌, ◌≤◌, List, [], ◌∷◌, ◌++◌, Bool, true, false, ◌&&◌, not, if◌then◌else◌, length, map, nat_eq, slice_get, Option, Some, None, Result, Ok, Err, codes, refl, sym, ◌∙◌, ap, subst, arith}
 use Rattle.std.specs.List.{list_any}
 use Rattle.std.proofs.lemmas.Bool.Decides.{nat_tests}
 use Rattle.std.proofs.lemmas.Bool.{or_parts}
 use Rattle.lt_definitions.specs.Types.{Chars, same_name, found, TypeTree, TypeMap, bool, fun, same_type}
-use Rattle.lt_definitions.specs.Typing.{Signature, Fault, earlier, type_fault, with_ok, unless, bound_type, applied_type}
+use Rattle.lt_definitions.specs.Typing.{Signature, Fault, type_fault, with_ok, unless, bound_type, applied_type}
 use Rattle.lt_definitions.specs.Derivations.{rule_fault}
 use Rattle.lt_definitions.specs.Rules.{where_holds, with_found, line_at, joined_type, predicate_over, Rule}
 use Rattle.lt_definitions.specs.declared.reason.Reason.{Reason}
@@ -15,7 +15,6 @@ use Rattle.lt_definitions.specs.Rules.{Rule, by_assume, by_weaken, by_refl, by_s
 use Rattle.lt_definitions.proofs.SameNames.{bool_cases, true-false}
 use Rattle.lt_nameless.proofs.BindingLemmas.{if-true, if-false}
 use Rattle.lt_definitions.proofs.TypingLemmas.{both-none, typed-some}
-use Rattle.lt_nameless.proofs.SameForms.{number-true}
 use Rattle.lt_definitions.proofs.RuleLemmas.{some-if}
 
 number-false : (i d : ℕ) → nat_eq i d ≡ false → i < suc d → i < d

@@ -1,6 +1,5 @@
 -- Closing: there is one closing, up to alpha equality.
-use Rattle.std.proofs.Common.{◌≡◌, inl, inr, ℕ, suc, ◌<◌, [], ◌∷◌, Bool, true, false, ◌&&◌, ◌||◌, length, nat_eq, refl, sym, ◌∙◌, ap, arith}
-use Rattle.std.proofs.lemmas.Bool.Decides.{nat_tests}
+use Rattle.std.proofs.Common.{◌≡◌, inl, inr, ℕ, suc, ◌<◌, [], ◌∷◌, false, ◌&&◌, length, nat_eq, refl, sym, ◌∙◌, ap, arith}
 use Rattle.std.proofs.lemmas.Bool.{or_parts, or_from}
 use Rattle.lt_definitions.specs.Types.{Chars, same_name, TypeTree, same_type}
 use Rattle.lt_definitions.specs.Terms.{TermTree, free_variable, bound_name, constant, application, abstraction, has_free}
@@ -8,7 +7,7 @@ use Rattle.lt_definitions.specs.Alpha.{AreAlpha}
 use Rattle.lt_definitions.specs.Binding.{opened, replaced, Closes, longest, new_binder, closed_over}
 use Rattle.lt_nameless.specs.Nameless.{Nameless, nameless_free, nameless_bound, nameless_loose, nameless_constant, nameless_application, nameless_abstraction, nameless}
 use Rattle.lt_nameless.specs.NamelessRules.{instance_at, abstracted, nameless_has_free}
-use Rattle.lt_definitions.proofs.SameNames.{true-false, bool_cases, both-true, true-both, name-true, true-name, false-name, type-true, type-refl, longer-differs}
+use Rattle.lt_definitions.proofs.SameNames.{bool_cases, both-true, true-both, name-true, true-name, type-true, type-refl, longer-differs}
 use Rattle.lt_nameless.proofs.Alphas.{alpha-nameless, nameless-alpha}
 use Rattle.lt_nameless.proofs.BindingLemmas.{if-true, if-false, opened-nameless, closed-nameless, free-nameless, new_is_longer}
 use Rattle.lt_nameless.proofs.SameForms.{number-true}

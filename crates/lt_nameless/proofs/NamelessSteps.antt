@@ -5,14 +5,13 @@ use Rattle.lt_definitions.specs.Types.{Chars, found, TypeTree, TypeMap, bool, fu
 use Rattle.lt_definitions.specs.Terms.{TermTree, application, equation, implies, for_all, term_instance}
 use Rattle.lt_definitions.specs.Typing.{Signature, type_fault, earlier}
 use Rattle.lt_definitions.specs.Binding.{replaced, closed_over}
-use Rattle.lt_definitions.specs.Rules.{Sequent, Rule, by_assume, by_weaken, by_refl, by_sym, by_trans, by_cong, by_abs, by_beta, by_eta, by_eqmp, by_impI, by_mp, by_allI, by_allE, by_iff, by_inst, by_tinst, by_select, by_ccontr, by_thm, Outcome, IsAlphaEqualOutcome, gives, where_holds, with_found, with_line, with_lines, line_at, as_equation, as_implication, as_forall, at_argument, beta_of, eta_of, type_of, predicate_over, joined_type, selection, step}
+use Rattle.lt_definitions.specs.Rules.{Sequent, Rule, by_assume, by_weaken, by_refl, by_sym, by_trans, by_cong, by_abs, by_beta, by_eta, by_eqmp, by_impI, by_mp, by_allI, by_allE, by_iff, by_inst, by_tinst, by_select, by_ccontr, by_thm, Outcome, gives, where_holds, with_found, with_line, with_lines, line_at, as_equation, as_implication, as_forall, at_argument, beta_of, eta_of, type_of, predicate_over, joined_type, selection, step}
 use Rattle.lt_definitions.specs.declared.reason.Reason.{Reason}
 use Rattle.lt_definitions.specs.declared.reason.Reason.TheVariants.{MissingLine, NotEquation, TypeDiffers, NotRedex, NotImplication, NotForall, UnknownLabel}
 use Rattle.lt_definitions.specs.Derivations.{rule_fault, term_fault}
 use Rattle.lt_nameless.specs.Nameless.{Nameless, nameless, NamelessSequent, nameless_sequent}
 use Rattle.lt_nameless.specs.NamelessRules.{nameless_type_of, nameless_equation, nameless_for_all, nameless_union, NamelessOutcome, nameless_gives, nameless_outcome, nameless_statements, nameless_rule, nameless_fault, nameless_step}
 use Rattle.lt_definitions.specs.Rules.{Rule}
-use Rattle.lt_nameless.proofs.Outcomes.{outcomes_are_nameless}
 use Rattle.lt_nameless.proofs.BindingLemmas.{IsScoped, closed-nameless, replaced-nameless, instance-nameless}
 use Rattle.lt_nameless.proofs.NamelessTyping.{all_nameless, in_option, sides, both_sides, typed_side, scoped-of, typed-of, has_type-nameless, type_of-nameless, alpha-same, union-nameless, without-nameless, free-in, replaced-in, instance-in, line-nameless, found-nameless, equation-nameless, implication-nameless, forall-nameless, at-nameless, beta-nameless, eta-nameless, selection-nameless, typed-nameless}
 use Rattle.lt_definitions.proofs.TypingLemmas.{both-none}

@@ -6,7 +6,7 @@ use Rattle.std.specs.Result.{result_unwrap_or, result_err}
 use Rattle.std.specs.List.{All, list_any}
 use Rattle.lt_definitions.specs.Types.{Chars, same_name, found, TypeTree, TypeMap, bool, fun, row, same_type, same_types, type_instance}
 use Rattle.lt_definitions.specs.Terms.{TermTree}
-use Rattle.lt_definitions.specs.Typing.{Signature, Fault, earlier, unbound, type_fault, with_ok, unless, bound_type, constant_type, applied_type, is_of_type}
+use Rattle.lt_definitions.specs.Typing.{Signature, Fault, unbound, type_fault, with_ok, unless, bound_type, constant_type, applied_type, is_of_type}
 use Rattle.lt_definitions.specs.Rules.{Rule, rule_map, by_assume, by_weaken, by_refl, by_sym, by_trans, by_cong, by_abs, by_beta, by_eta, by_eqmp, by_impI, by_mp, by_allI, by_allE, by_iff, by_inst, by_tinst, by_select, by_ccontr, by_thm, Outcome, where_holds, with_found, with_line, with_lines, joined_type, predicate_over}
 use Rattle.lt_definitions.specs.declared.reason.Reason.{Reason}
 use Rattle.lt_definitions.specs.declared.reason.Reason.TheVariants.{NotBool, NotEquation, MiddleDiffers, TypeDiffers, VariableInHypothesis, NotRedex, NotImplication, NotForall, UnknownLabel}
