@@ -24,8 +24,8 @@ use Rattle.lt_definitions.specs.Printing.{printed_type, printed_types, printed_c
 use Rattle.lt_texts.proofs.CharacterRuns.{starts_name-ascii}
 use Rattle.lt_texts.proofs.GapLemmas.{gap_exact}
 use Rattle.lt_texts.proofs.NextTokens.{spelt_read}
-use Rattle.lt_grammar.specs.Writing.{type_lexemes, types_lexemes, arguments_lexemes, TermText, bound, free, lambda, TermTexts, no_more_terms, more_terms, term_lexemes, terms_lexemes}
-use Rattle.lt_grammar.specs.Named.{IsTypeNamed, AreTypesNamed, IsNamed}
+use Rattle.lt_texts.specs.Writing.{type_lexemes, types_lexemes, arguments_lexemes, TermText, bound, free, lambda, TermTexts, no_more_terms, more_terms, term_lexemes, terms_lexemes}
+use Rattle.lt_texts.specs.Named.{IsTypeNamed, AreTypesNamed, IsNamed}
 use Rattle.lt_grammar.proofs.OneWay.{IsClear, type_clear, term_clear}
 use Rattle.lt_grammar.proofs.Shown.{name_at, shown, IsBoundIn, printed_at, or_left, or_right, own_name, bound_body}
 

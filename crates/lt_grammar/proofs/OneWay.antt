@@ -8,8 +8,8 @@ use Rattle.lt_texts.specs.Lexemes.{Lexeme, a_name, a_sign}
 use Rattle.lt_grammar.specs.declared.words.Fixed.{Fixed}
 use Rattle.lt_grammar.specs.declared.words.Fixed.TheVariants.{Semicolon, Colon, Becomes, OpenBrace, By, Abs, Rep}
 use Rattle.lt_grammar.specs.declared.words.Part.{Part}
-use Rattle.lt_grammar.specs.declared.words.Part.TheVariants.{Label, Number, Variable, Parameters, AType, ATerm, Fixed as Exactly}
-use Rattle.lt_grammar.specs.Writing.{type_lexemes, types_lexemes, arguments_lexemes, TermText, word, bound, free, lambda, applied, TermTexts, no_more_terms, more_terms, term_lexemes, terms_lexemes}
+use Rattle.lt_grammar.specs.declared.words.Part.TheVariants.{Label, Number, Variable, Parameters, AType, AStatement, ATerm, Fixed as Exactly}
+use Rattle.lt_texts.specs.Writing.{type_lexemes, types_lexemes, arguments_lexemes, TermText, word, bound, free, lambda, applied, TermTexts, no_more_terms, more_terms, term_lexemes, terms_lexemes}
 use Rattle.lt_grammar.specs.Rows.{fixed, Text, variables_lexemes, part_lexemes, Texts, parts_lexemes}
 
 -- ---- types
@@ -167,6 +167,7 @@ one_text Number a b x y m n e = (cc e, cc e)
 one_text Variable a b x y m n e = (cc e, cc e)
 one_text Parameters a b x y m n e = one-variables a b x y e
 one_text AType a b x y m n e = one_type a b x y e
+one_text AStatement a b x y m n e = one_term a b x y m n e
 one_text ATerm a b x y m n e = one_term a b x y m n e
 one_text (Exactly k) a b x y m n e = (refl, cc e)
 
@@ -191,6 +192,7 @@ part-clear Variable a x = tt
 part-clear Parameters [] x = tt
 part-clear Parameters (a ∷ more) x = tt
 part-clear AType a x = type_clear a x
+part-clear AStatement a x = term_clear a x
 part-clear ATerm a x = term_clear a x
 part-clear (Exactly k) a x = fixed-clear k x
 

@@ -14,8 +14,8 @@ use Rattle.lt_definitions.specs.Terms.{TermTree, HasNoLooseNames, term_nodes}
 use Rattle.lt_texts.specs.Texts.{Left, end_of}
 use Rattle.lt_definitions.specs.Types.{TypeTree}
 use Rattle.lt_texts.proofs.NextTokens.{all_ahead}
-use Rattle.lt_grammar.specs.Named.{IsTypeNamed, IsNamed}
-use Rattle.lt_grammar.specs.Writing.{TermText, no_more_terms, type_lexemes, term_lexemes, term_of_text}
+use Rattle.lt_texts.specs.Named.{IsTypeNamed, IsNamed}
+use Rattle.lt_texts.specs.Writing.{TermText, no_more_terms, type_lexemes, term_lexemes, term_of_text}
 use Rattle.lt_grammar.proofs.Shown.{shown, none_loose, shown_is_alpha}
 use Rattle.lt_grammar.proofs.Cuts.{Cuts, Cutting, nothing_cut, cuts_spans, cut_type, cut_term}
 

@@ -11,7 +11,7 @@ use Rattle.lt_definitions.specs.Printing.{printed_bound}
 use Rattle.lt_definitions.proofs.SameNames.{bool_cases, true-name, false-name}
 use Rattle.lt_nameless.proofs.BindingLemmas.{if-true, if-false}
 use Rattle.lt_nameless.proofs.Alphas.{name-hit, name-miss, nameless-alpha}
-use Rattle.lt_grammar.specs.Writing.{TermText, word, bound, free, lambda, applied, TermTexts, no_more_terms, more_terms, term_of_text, applied_to}
+use Rattle.lt_texts.specs.Writing.{TermText, word, bound, free, lambda, applied, TermTexts, no_more_terms, more_terms, term_of_text, applied_to}
 
 abbrev pub with_arguments : TermText → TermTexts → TermText
 with_arguments t no_more_terms = t

@@ -1,5 +1,5 @@
--- A row of the table: a word, the parts of the text behind it, and what is made of what the parts stand for.
--- Source: this project's own.
+-- A row of the reader's table: a word, the parts of the text behind it, and what is made of what the parts stand for. The text itself
+-- is said by pieces, and laws tell that each row agrees with them.
 use Prim.Native.String.{String}
 use Rattle.std.specs.Prelude.{ℕ, List, [], ◌∷◌, Some, codes}
 use Rattle.lt_texts.specs.declared.lexical.TokenKind.TheVariants as kinds
@@ -9,8 +9,8 @@ use Rattle.lt_texts.specs.Lexemes.{Lexeme, a_name, a_variable, a_number, a_sign}
 use Rattle.lt_grammar.specs.declared.words.Fixed.{Fixed}
 use Rattle.lt_grammar.specs.declared.words.Fixed.TheVariants.{Semicolon, Colon, Becomes, OpenBrace, By, Abs, Rep}
 use Rattle.lt_grammar.specs.declared.words.Part.{Part}
-use Rattle.lt_grammar.specs.declared.words.Part.TheVariants.{Label, Number, Variable, Parameters, AType, ATerm, Fixed as Exactly}
-use Rattle.lt_grammar.specs.Writing.{type_lexemes, TermText, term_lexemes, term_of_text}
+use Rattle.lt_grammar.specs.declared.words.Part.TheVariants.{Label, Number, Variable, Parameters, AType, AStatement, ATerm, Fixed as Exactly}
+use Rattle.lt_texts.specs.Writing.{type_lexemes, TermText, term_lexemes, term_of_text}
 
 -- the lexeme that stands as it is
 abbrev pub fixed : Fixed → Lexeme
@@ -29,10 +29,11 @@ Text Number = ℕ
 Text Variable = Chars
 Text Parameters = List Chars
 Text AType = TypeTree
+Text AStatement = TermText
 Text ATerm = TermText
 Text (Exactly k) = Unit {0}
 
--- a number that is at most 2^32 - 1
+-- the lexeme of a number with a value; bytes give one for values up to 2^32 - 1 alone
 abbrev pub number : ℕ → Lexeme
 number n = a_number (Some n)
 
@@ -47,26 +48,29 @@ part_lexemes Number k rest = number k ∷ rest
 part_lexemes Variable a rest = a_variable a ∷ rest
 part_lexemes Parameters names rest = variables_lexemes names (a_sign kinds.Colon ∷ rest)
 part_lexemes AType ty rest = type_lexemes ty rest
+part_lexemes AStatement t rest = term_lexemes t rest
 part_lexemes ATerm t rest = term_lexemes t rest
 part_lexemes (Exactly k) u rest = fixed k ∷ rest
 
--- what is still to be made from what the part stands for
+-- a function of what the part stands for, or the value itself where it stands for nothing
 abbrev pub From : Part → Type 0 → Type 0
 From Label C = Chars → C
 From Number C = ℕ → C
 From Variable C = Chars → C
 From Parameters C = List Chars → C
 From AType C = TypeTree → C
+From AStatement C = TermTree → C
 From ATerm C = TermTree → C
 From (Exactly k) C = C
 
--- what is made
+-- what the function gives
 abbrev pub given : {C : Type 0} → (p : Part) → From p C → Text p → C
 given Label f n = f n
 given Number f k = f k
 given Variable f a = f a
 given Parameters f names = f names
 given AType f ty = f ty
+given AStatement f t = f (term_of_text t)
 given ATerm f t = f (term_of_text t)
 given (Exactly k) c u = c
 

@@ -8,11 +8,11 @@ use Rattle.lt_definitions.proofs.SameNames.{listed-row}
 use Rattle.lt_grammar.specs.declared.words.Part.{Part}
 use Rattle.lt_grammar.specs.declared.words.Part.TheVariants.{Label as ALabel, Number as ANumber, Variable as AVariable, Parameters, AType, ATerm, Fixed}
 use Rattle.lt_grammar.specs.declared.words.Head.TheVariants.{Lemma, Item as AnItem, Command as ACommand}
-use Rattle.lt_grammar.specs.Writing.{TermText, word, bound, free, lambda, TermTexts, no_more_terms, more_terms, term_of_text, applied_to}
-use Rattle.lt_grammar.specs.Writing as writing
+use Rattle.lt_texts.specs.Writing.{TermText, word, bound, free, lambda, TermTexts, no_more_terms, more_terms, term_of_text, applied_to}
+use Rattle.lt_texts.specs.Writing as writing
 use Rattle.lt_grammar.specs.Rows.{Text, Texts, From, FromAll, given, given_all, Row}
 use Rattle.lt_grammar.specs.Table.{rule_row, item_row, lemma_parts, command_row}
-use Rattle.lt_grammar.specs.Script.{row_meaning, LineText, line, rule_of_text, PartText, header, item, lemma, command}
+use Rattle.lt_grammar.specs.RowTexts.{row_meaning, LineText, line, rule_of_text, PartText, header, item, lemma, command}
 use Rattle.lt_script.specs.declared.note.Note.{Note}
 use Rattle.lt_script.specs.declared.note.Note.TheVariants.{TypeOpen, TypeClose, KeepType, ConstantName, Arguments, FreeName, FreeClose, LambdaName, LambdaClose, Apply, KeepTerm, Parameter, KeepParameters, BeginLine, EndLine, Begin}
 use Rattle.lt_script.specs.Notes.{type_notes, types_notes, later_notes, arguments_notes, term_notes, terms_notes, parameters_notes, part_notes, parts_notes, lines_notes, text_notes, head_of_text, meant_by}

@@ -7,15 +7,15 @@ use Rattle.lt_texts.specs.declared.lexical.Lexed.TheVariants.{Token as One, End,
 use Rattle.lt_definitions.specs.Types.{Chars}
 use Rattle.lt_texts.specs.Texts.{Left, lexed, after, spelling}
 use Rattle.lt_texts.specs.Lexemes.{Lexeme, a_name, lexeme, IsNextLexeme, Spans}
-use Rattle.lt_grammar.specs.declared.words.Mode.{Mode}
+use Rattle.lt_texts.specs.Forms.{Form}
 use Rattle.lt_grammar.specs.declared.words.Mode.TheVariants.{Plain, Theory}
 use Rattle.lt_grammar.specs.declared.words.Head.{Head}
 use Rattle.lt_grammar.specs.declared.words.Head.TheVariants.{Header}
 use Rattle.lt_grammar.specs.Table.{header_word}
-use Rattle.lt_grammar.specs.Script.{PartText, header, text_lexemes, texts_lexemes, MayStand, MayStandAll}
+use Rattle.lt_grammar.specs.RowTexts.{PartText, header, text_lexemes, texts_lexemes, MayStand, MayStandAll}
 use Rattle.lt_grammar.specs.Words.{head_of, head_word, heads}
 use Rattle.lt_grammar.proofs.Distinct.{IsHead, found_has, head_found}
-use Rattle.lt_grammar.proofs.OneReading.{one_part, part_not_empty, header_stands}
+use Rattle.lt_grammar.proofs.RowReading.{one_part, part_not_empty, header_stands}
 use Rattle.lt_script.specs.declared.symbol.Symbol.{Symbol}
 use Rattle.lt_script.specs.declared.symbol.Symbol.TheVariants.{APart, AHeader}
 use Rattle.lt_script.specs.declared.read_error.ReadError.{ReadError}
@@ -37,7 +37,7 @@ pub spans_append : (s t u : Left) (xs ys : List Lexeme) → Spans s xs t → Spa
 spans_append s t u [] ys e f = subst (λ (x : Left). Spans x ys u) e f
 spans_append s t u (x ∷ xs) ys (n, e) f = (n, spans_append (after s) t u xs ys e f)
 
-module _ (h : Mode) where
+module _ (h : Form) where
   pub texts_split : (ps : List PartText) (x : List Lexeme) → texts_lexemes h ps x ≡ texts_lexemes h ps [] ++ x
   texts_split [] x = refl
   texts_split (p ∷ ps) x =
@@ -198,7 +198,7 @@ module _ (h : Mode) where
       let same : Some k ≡ Some Header = sym e ∙ ap (head_of h) ((bytes_eq-Decides c (header_word h)).0 q) ∙ head_found h Header (is-head h) in
       ap (λ (o : Option Head). call_by o n) same
     where
-      is-head : (h : Mode) → IsHead h Header
+      is-head : (h : Form) → IsHead h Header
       is-head Plain = tt
       is-head Theory = tt
 

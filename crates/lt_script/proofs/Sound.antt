@@ -7,7 +7,7 @@ use Rattle.std.proofs.lemmas.Slice.Eq.{bytes_eq-Decides}
 use Rattle.lt_texts.specs.declared.lexical.TokenKind.TheVariants as kinds
 use Rattle.lt_definitions.specs.Types.{Chars, TypeTree, TypeTrees, type_variable, type_constructor, no_types, type_and, row}
 use Rattle.lt_texts.specs.Lexemes.{Lexeme, a_name, a_variable, a_number, a_sign}
-use Rattle.lt_grammar.specs.declared.words.Mode.{Mode}
+use Rattle.lt_texts.specs.Forms.{Form}
 use Rattle.lt_grammar.specs.declared.words.Mode.TheVariants.{Plain, Theory}
 use Rattle.lt_grammar.specs.declared.words.Fixed.{Fixed}
 use Rattle.lt_grammar.specs.declared.words.Fixed.TheVariants as signs
@@ -18,10 +18,10 @@ use Rattle.lt_grammar.specs.declared.words.ItemWord.{ItemWord}
 use Rattle.lt_grammar.specs.declared.words.CommandWord.{CommandWord}
 use Rattle.lt_grammar.specs.declared.words.Head.{Head}
 use Rattle.lt_grammar.specs.declared.words.Head.TheVariants.{Header, Lemma, Item, Command}
-use Rattle.lt_grammar.specs.Writing.{type_lexemes, types_lexemes, arguments_lexemes, TermText, word, bound, free, lambda, applied, TermTexts, no_more_terms, more_terms, term_lexemes, terms_lexemes}
+use Rattle.lt_texts.specs.Writing.{type_lexemes, types_lexemes, arguments_lexemes, TermText, word, bound, free, lambda, applied, TermTexts, no_more_terms, more_terms, term_lexemes, terms_lexemes}
 use Rattle.lt_grammar.specs.Rows.{fixed, Text, Texts, number, part_lexemes, parts_lexemes}
 use Rattle.lt_grammar.specs.Table.{rule_row, item_row, lemma_parts, command_row}
-use Rattle.lt_grammar.specs.Script.{LineText, line, lines_lexemes, PartText, header, item, lemma, command, text_lexemes, MayStand}
+use Rattle.lt_grammar.specs.RowTexts.{LineText, line, lines_lexemes, PartText, header, item, lemma, command, text_lexemes, MayStand}
 use Rattle.lt_grammar.specs.Words.{find_word, all_rules, heads, rule_of, rule_word, head_of, head_word}
 use Rattle.lt_grammar.proofs.Distinct.{found_has}
 use Rattle.lt_script.specs.declared.symbol.Symbol.{Symbol}
@@ -270,23 +270,23 @@ back-end-line r _ s us m e l = absurd (cc e)
 ends : (s : List Symbol) (ws : List Lexeme) → Language (semicolon ∷ s) ws → (rest : List Lexeme) × (ws ≡ a_sign kinds.Semicolon ∷ rest) × Language s rest
 ends s ws (r, (u, h), l) = (r, h, l)
 
-one-header : (h : Mode) (c : Chars) (s : List Symbol) (us : List Lexeme) → c ≡ head_word h Header → Language (expected Header ++ s) us → (rest : List Lexeme) × (a_name c ∷ us ≡ text_lexemes h header rest) × Language s rest
+one-header : (h : Form) (c : Chars) (s : List Symbol) (us : List Lexeme) → c ≡ head_word h Header → Language (expected Header ++ s) us → (rest : List Lexeme) × (a_name c ∷ us ≡ text_lexemes h header rest) × Language s rest
 one-header h c s us same (r, k, l) =
     let q = ends s r l in
     (q.0, begun c (head_word h Header) us _ same (k ∙ ap (λ (x : List Lexeme). number 1 ∷ x) q.1), q.2)
 
-one-part : (h : Mode) (k : Head) (c : Chars) (s : List Symbol) (us : List Lexeme) → ((w : CommandWord) (ts : Texts (command_row w).parts) → k ≡ Command w → MayStand h (command w ts)) → c ≡ head_word h k
+one-part : (h : Form) (k : Head) (c : Chars) (s : List Symbol) (us : List Lexeme) → ((w : CommandWord) (ts : Texts (command_row w).parts) → k ≡ Command w → MayStand h (command w ts)) → c ≡ head_word h k
     → Language (expected k ++ s) us → Language (APart h ∷ s) (a_name c ∷ us)
 one-part h Header c s us m same l = let q = one-header h c s us same l in (q.0, (header, stands h, q.1), q.2)
   where
-    stands : (h : Mode) → MayStand h header
+    stands : (h : Form) → MayStand h header
     stands Plain = tt
     stands Theory = tt
 one-part h Lemma c s us m same l =
     let p = row-spelt lemma_parts (APartOf (Exactly signs.OpenBrace) ∷ Lines ∷ semicolon ∷ []) s us l in
     more p.0 p.1 p.2 p.3
   where
-    stands : (h : Mode) (n : Chars) (t : TermText) (lines : List LineText) → MayStand h (lemma n t lines)
+    stands : (h : Form) (n : Chars) (t : TermText) (lines : List LineText) → MayStand h (lemma n t lines)
     stands Plain n t lines = tt
     stands Theory n t lines = tt
 
@@ -299,7 +299,7 @@ one-part h (Item w) c s us m same l =
     let q = ends s p.1 p.3 in
     (q.0, (item w p.0, stands h w p.0, begun c (item_row w).word us _ same (p.2 ∙ ap (parts_lexemes (item_row w).parts p.0) q.1)), q.2)
   where
-    stands : (h : Mode) (w : ItemWord) (ts : Texts (item_row w).parts) → MayStand h (item w ts)
+    stands : (h : Form) (w : ItemWord) (ts : Texts (item_row w).parts) → MayStand h (item w ts)
     stands Plain w ts = tt
     stands Theory w ts = tt
 one-part h (Command w) c s us m same l =
@@ -322,26 +322,26 @@ abbrev is_plain : Head → Bool
 is_plain (Command w) = false
 is_plain _ = true
 
-may-stand : (h : Mode) (c : Chars) (k : Head) → head_of h c ≡ Some k → (w : CommandWord) (ts : Texts (command_row w).parts) → k ≡ Command w → MayStand h (command w ts)
+may-stand : (h : Form) (c : Chars) (k : Head) → head_of h c ≡ Some k → (w : CommandWord) (ts : Texts (command_row w).parts) → k ≡ Command w → MayStand h (command w ts)
 may-stand Theory c k e w ts q = tt
 may-stand Plain c k e w ts q =
     let plain : is_plain k ≡ true = found-test is_plain (head_word Plain) (heads Plain) c k refl e in
     let clash : false ≡ true = ap is_plain (sym q) ∙ plain in
     absurd (cc clash)
 
-parted : (h : Mode) (c : Chars) (o : Option Head) → head_of h c ≡ o → Back (APart h) (a_name c) (part_move o)
+parted : (h : Form) (c : Chars) (o : Option Head) → head_of h c ≡ o → Back (APart h) (a_name c) (part_move o)
 parted h c None q s us m e l = absurd (cc e)
 parted h c (Some k) q s us m e l = one-part h k c s us (may-stand h c k q) (found_has (head_word h) (heads h) c k q) l
 
-back-part : (h : Mode) (w : Lexeme) → Back (APart h) w (step_part h w)
+back-part : (h : Form) (w : Lexeme) → Back (APart h) w (step_part h w)
 back-part h (a_name c) s us m e l = parted h c (head_of h c) refl s us m e l
 back-part h _ s us m e l = absurd (cc e)
 
-headed : (h : Mode) (c : Chars) (o : Option Head) → head_of h c ≡ o → Back (AHeader h) (a_name c) (header_move o)
+headed : (h : Form) (c : Chars) (o : Option Head) → head_of h c ≡ o → Back (AHeader h) (a_name c) (header_move o)
 headed h c (Some Header) q s us m e l = let p = one-header h c s us (found_has (head_word h) (heads h) c Header q) l in (p.0, p.1, p.2)
 headed h c _ q s us m e l = absurd (cc e)
 
-back-header : (h : Mode) (w : Lexeme) → Back (AHeader h) w (step_header h w)
+back-header : (h : Form) (w : Lexeme) → Back (AHeader h) w (step_header h w)
 back-header h (a_name c) s us m e l = headed h c (head_of h c) refl s us m e l
 back-header h _ s us m e l = absurd (cc e)
 

@@ -3,13 +3,13 @@ use Rattle.std.proofs.Common.{◌≡◌, ◌∙◌, ap, refl, List, [], ◌∷�
 use Rattle.lt_texts.specs.declared.lexical.TokenKind.TheVariants as kinds
 use Rattle.lt_definitions.specs.Types.{Chars, TypeTree, TypeTrees, type_variable, type_constructor, no_types, type_and, row}
 use Rattle.lt_texts.specs.Lexemes.{Lexeme, a_name, a_variable, a_sign}
-use Rattle.lt_grammar.specs.declared.words.Mode.{Mode}
+use Rattle.lt_texts.specs.Forms.{Form}
 use Rattle.lt_grammar.specs.declared.words.Part.{Part}
 use Rattle.lt_grammar.specs.declared.words.Part.TheVariants.{Label, Number, Variable, Parameters, AType, ATerm, Fixed as Exactly}
-use Rattle.lt_grammar.specs.Writing.{type_lexemes, types_lexemes, arguments_lexemes, TermText, word, bound, free, lambda, applied, TermTexts, no_more_terms, more_terms, term_lexemes, terms_lexemes}
+use Rattle.lt_texts.specs.Writing.{type_lexemes, types_lexemes, arguments_lexemes, TermText, word, bound, free, lambda, applied, TermTexts, no_more_terms, more_terms, term_lexemes, terms_lexemes}
 use Rattle.lt_grammar.specs.Rows.{Text, Texts, variables_lexemes, part_lexemes, parts_lexemes}
 use Rattle.lt_grammar.specs.Table.{rule_row, item_row, lemma_parts, command_row}
-use Rattle.lt_grammar.specs.Script.{LineText, line, lines_lexemes, PartText, header, item, lemma, command, text_lexemes}
+use Rattle.lt_grammar.specs.RowTexts.{LineText, line, lines_lexemes, PartText, header, item, lemma, command, text_lexemes}
 use Rattle.std.specs.Prelude.{codes}
 
 -- a writing that ends where the rest begins
@@ -85,7 +85,7 @@ lines-splits (line w ts ∷ lines) x y =
     (ap (λ (z : List Lexeme). parts_lexemes (rule_row w).parts ts (a_sign kinds.Semicolon ∷ z)) (lines-splits lines x y)
     ∙ parts_splits (rule_row w).parts ts (a_sign kinds.Semicolon ∷ lines_lexemes lines x) y)
 
-pub text_splits : (h : Mode) (p : PartText) → Splits (text_lexemes h p)
+pub text_splits : (h : Form) (p : PartText) → Splits (text_lexemes h p)
 text_splits h header x y = refl
 text_splits h (item w ts) x y = ap (λ (z : List Lexeme). a_name (item_row w).word ∷ z) (parts_splits (item_row w).parts ts (a_sign kinds.Semicolon ∷ x) y)
 text_splits h (lemma l p lines) x y =

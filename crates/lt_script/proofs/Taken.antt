@@ -4,7 +4,7 @@ use Rattle.std.specs.Prelude.{map}
 use Rattle.lt_texts.specs.declared.lexical.TokenKind.TheVariants as kinds
 use Rattle.lt_definitions.specs.Types.{Chars, TypeTree, TypeTrees, type_variable, type_constructor, no_types, type_and, row}
 use Rattle.lt_texts.specs.Lexemes.{Lexeme, a_name, a_sign}
-use Rattle.lt_grammar.specs.declared.words.Mode.{Mode}
+use Rattle.lt_texts.specs.Forms.{Form}
 use Rattle.lt_grammar.specs.declared.words.Mode.TheVariants.{Plain, Theory}
 use Rattle.lt_grammar.specs.declared.words.Fixed.{Fixed}
 use Rattle.lt_grammar.specs.declared.words.Fixed.TheVariants as signs
@@ -13,10 +13,10 @@ use Rattle.lt_grammar.specs.declared.words.Part.TheVariants.{Label, Number, Vari
 use Rattle.lt_grammar.specs.declared.words.RuleWord.{RuleWord}
 use Rattle.lt_grammar.specs.declared.words.Head.{Head}
 use Rattle.lt_grammar.specs.declared.words.Head.TheVariants.{Header, Lemma, Item, Command}
-use Rattle.lt_grammar.specs.Writing.{type_lexemes, types_lexemes, arguments_lexemes, TermText, word, bound, free, lambda, applied, TermTexts, no_more_terms, more_terms, term_lexemes, terms_lexemes}
+use Rattle.lt_texts.specs.Writing.{type_lexemes, types_lexemes, arguments_lexemes, TermText, word, bound, free, lambda, applied, TermTexts, no_more_terms, more_terms, term_lexemes, terms_lexemes}
 use Rattle.lt_grammar.specs.Rows.{Text, Texts, number, variables_lexemes, part_lexemes, parts_lexemes}
 use Rattle.lt_grammar.specs.Table.{rule_row, item_row, lemma_parts, command_row}
-use Rattle.lt_grammar.specs.Script.{LineText, line, lines_lexemes, PartText, header, item, lemma, command, text_lexemes, MayStand}
+use Rattle.lt_grammar.specs.RowTexts.{LineText, line, lines_lexemes, PartText, header, item, lemma, command, text_lexemes, MayStand}
 use Rattle.lt_grammar.specs.Words.{rule_word, head_word}
 use Rattle.lt_grammar.proofs.Distinct.{rule_found, head_found, IsHead}
 use Rattle.lt_grammar.proofs.OneWay.{IsClear, term_clear, terms_clear, parts_clear}
@@ -213,20 +213,20 @@ takes_lines (line w ts ∷ lines) s b rest =
 
 -- ---- parts of a text
 
-begun-part : (h : Mode) (k : Head) (s : List Symbol) (b : List Note) (ws : List Lexeme) → IsHead h k
+begun-part : (h : Form) (k : Head) (s : List Symbol) (b : List Note) (ws : List Lexeme) → IsHead h k
     → run (APart h ∷ s) b (a_name (head_word h k) ∷ ws) ≡ run (expected k ++ s) (begin k ∷ b) ws
 begun-part h k s b ws m =
     ap (λ (o : Option Head). onward (or_pass (under s [] (part_move o)) None (step_on s (a_name (head_word h k)))) (λ m. run m.pushed (m.made ++ b) ws)) (head_found h k m)
 
-head-stands : (h : Mode) → IsHead h Header
+head-stands : (h : Form) → IsHead h Header
 head-stands Plain = tt
 head-stands Theory = tt
 
-lemma-stands : (h : Mode) → IsHead h Lemma
+lemma-stands : (h : Form) → IsHead h Lemma
 lemma-stands Plain = tt
 lemma-stands Theory = tt
 
-pub takes_text : (h : Mode) (p : PartText) (s : List Symbol) (b : List Note) (rest : List Lexeme) → MayStand h p
+pub takes_text : (h : Form) (p : PartText) (s : List Symbol) (b : List Note) (rest : List Lexeme) → MayStand h p
     → run (APart h ∷ s) b (text_lexemes h p rest) ≡ run s (text_notes p b) rest
 takes_text h header s b rest m = begun-part h Header s b (number 1 ∷ a_sign kinds.Semicolon ∷ rest) (head-stands h)
 takes_text Plain (item w ts) s b rest m =
@@ -242,6 +242,6 @@ takes_text Plain (command w ts) s b rest m = absurd m
 takes_text Theory (command w ts) s b rest m =
     begun-part Theory (Command w) s b _ tt ∙ row-behind (command_row w).parts ts (semicolon ∷ []) s (begin (Command w) ∷ b) (a_sign kinds.Semicolon ∷ rest) tt
 
-pub takes_header : (h : Mode) (s : List Symbol) (b : List Note) (rest : List Lexeme) → run (AHeader h ∷ s) b (text_lexemes h header rest) ≡ run s (begin Header ∷ b) rest
+pub takes_header : (h : Form) (s : List Symbol) (b : List Note) (rest : List Lexeme) → run (AHeader h ∷ s) b (text_lexemes h header rest) ≡ run s (begin Header ∷ b) rest
 takes_header Plain s b rest = refl
 takes_header Theory s b rest = refl

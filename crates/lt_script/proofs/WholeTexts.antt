@@ -5,19 +5,19 @@ use Rattle.lt_texts.specs.declared.lexical.Lexed.TheVariants.{Token as One, End,
 use Rattle.lt_texts.specs.Texts.{Left, left_of, lexed, after, spelling}
 use Rattle.lt_texts.specs.Lexemes.{Lexeme, lexeme, Spans}
 use Rattle.lt_texts.proofs.OneReading.{one_next, no_next}
-use Rattle.lt_grammar.specs.declared.words.Mode.{Mode}
-use Rattle.lt_grammar.specs.Commands.{Command}
-use Rattle.lt_grammar.specs.Script.{PartText, header, item, lemma, command, text_lexemes, texts_lexemes, MayStandAll, commands_of, HasCommands}
-use Rattle.lt_grammar.proofs.OneReading.{header_stands}
+use Rattle.lt_texts.specs.Forms.{Form}
+use Rattle.lt_texts.specs.Commands.{Command}
+use Rattle.lt_grammar.specs.RowTexts.{PartText, header, item, lemma, command, text_lexemes, texts_lexemes, MayStandAll, commands_of, HasCommands}
+use Rattle.lt_grammar.proofs.RowReading.{header_stands}
 use Rattle.lt_script.specs.declared.read_error.ReadError.{ReadError}
 use Rattle.lt_script.specs.declared.read_error.ReadError.TheVariants.{BadHeader, BadCommand, Syntax, BadByte, BadChar, Memory}
 use Rattle.lt_script.specs.Reading.{IsWhole, IsRest, called, IsWrong, FailsAt, HeaderFailsAt, Fails, HeaderFails, AreHeaders, AtEnd, NextCommand, Begins, HasNoCommands, IsOfText}
 use Rattle.lt_script.proofs.Parts.{spans_texts, texts_split, strip, stand_all}
 
-pub header_begins : (h : Mode) (text : List ℕ) (s : Left) → Spans (left_of text) (text_lexemes h header []) s → Begins h text [] s
+pub header_begins : (h : Form) (text : List ℕ) (s : Left) → Spans (left_of text) (text_lexemes h header []) s → Begins h text [] s
 header_begins h text s e = ([], tt, e, refl)
 
-module _ (h : Mode) where
+module _ (h : Form) where
   texts-append : (ps qs : List PartText) (x : List Lexeme) → texts_lexemes h ps (texts_lexemes h qs x) ≡ texts_lexemes h (ps ++ qs) x
   texts-append [] qs x = refl
   texts-append (p ∷ ps) qs x = ap (text_lexemes h p) (texts-append ps qs x)

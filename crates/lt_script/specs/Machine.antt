@@ -2,7 +2,7 @@
 use Rattle.std.specs.Prelude.{◌≡◌, ◌==◌, List, [], ◌∷◌, ◌++◌, map, Option, Some, None, Bool, true, false, if◌then◌else◌, codes, bytes_eq}
 use Rattle.lt_texts.specs.declared.lexical.TokenKind.TheVariants as kinds
 use Rattle.lt_texts.specs.Lexemes.{Lexeme, a_name, a_variable, a_number, a_sign}
-use Rattle.lt_grammar.specs.declared.words.Mode.{Mode}
+use Rattle.lt_texts.specs.Forms.{Form}
 use Rattle.lt_grammar.specs.declared.words.Fixed.{Fixed}
 use Rattle.lt_grammar.specs.declared.words.Fixed.TheVariants as signs
 use Rattle.lt_grammar.specs.declared.words.Part.{Part}
@@ -157,7 +157,7 @@ abbrev pub part_move : Option Head → Option Move
 part_move None = None
 part_move (Some k) = go (expected k) (begin k ∷ [])
 
-abbrev pub step_part : Mode → Lexeme → Option Move
+abbrev pub step_part : Form → Lexeme → Option Move
 step_part h (a_name w) = part_move (head_of h w)
 step_part h _ = None
 
@@ -165,7 +165,7 @@ abbrev pub header_move : Option Head → Option Move
 header_move (Some Header) = part_move (Some Header)
 header_move _ = None
 
-abbrev pub step_header : Mode → Lexeme → Option Move
+abbrev pub step_header : Form → Lexeme → Option Move
 step_header h (a_name w) = header_move (head_of h w)
 step_header h _ = None
 

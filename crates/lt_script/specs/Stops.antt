@@ -6,10 +6,10 @@ use Rattle.lt_texts.specs.declared.lexical.Token.{Token}
 use Rattle.lt_texts.specs.Texts.{Left, lexed, after, spelling}
 use Rattle.lt_definitions.specs.Types.{Chars}
 use Rattle.lt_texts.specs.Lexemes.{Lexeme, a_name, lexeme, Spans}
-use Rattle.lt_grammar.specs.declared.words.Mode.{Mode}
+use Rattle.lt_texts.specs.Forms.{Form}
 use Rattle.lt_grammar.specs.declared.words.Head.{Head}
 use Rattle.lt_grammar.specs.declared.words.Head.TheVariants.{Header}
-use Rattle.lt_grammar.specs.Script.{PartText}
+use Rattle.lt_grammar.specs.RowTexts.{PartText}
 use Rattle.lt_grammar.specs.Words.{head_of}
 use Rattle.lt_script.specs.declared.symbol.Symbol.{Symbol}
 use Rattle.lt_script.specs.declared.read_error.ReadError.{ReadError}
@@ -49,7 +49,7 @@ call_of Header = BadHeader
 call_of _ = Syntax
 
 -- what stands next where a part may begin: what begins it, with its place, something else, or no token
-abbrev pub SaysNext : Mode → Left → Left → Next → Type 0
+abbrev pub SaysNext : Form → Left → Left → Next → Type 0
 SaysNext h s s' Ends = lexed s ≡ End
 SaysNext h s s' (Begins k at) = (c : Chars) × (t : Token) × (lexed s ≡ One t) × (at ≡ t.from) × (a_name c ≡ lexeme t.kind (spelling s)) × (head_of h c ≡ Some k) × (s' ≡ after s)
 SaysNext h s s' (Other at) = (t : Token) × (lexed s ≡ One t) × (at ≡ t.from) × (step_part h (lexeme t.kind (spelling s)) ≡ None)
@@ -57,11 +57,11 @@ SaysNext h s s' (NoByte at) = lexed s ≡ NoText at
 SaysNext h s s' (NoChar at) = lexed s ≡ NoToken at
 
 -- a part that is no header, behind headers if there are any, with what is noted of it
-abbrev pub NextNotes : Mode → Left → Head → List Note → Left → Type 0
+abbrev pub NextNotes : Form → Left → Head → List Note → Left → Type 0
 NextNotes h s k made s' = (p : PartText) × NextText h s p s' × (made ≡ reverse (text_notes p [])) × (k ≡ head_of_text p)
 
 -- what a word at a place begins
-abbrev pub Heads : Mode → Lexeme → ℕ → Next → Type 0
+abbrev pub Heads : Form → Lexeme → ℕ → Next → Type 0
 Heads h w at (Begins k n) = (n ≡ at) × (c : Chars) × (w ≡ a_name c) × (head_of h c ≡ Some k)
 Heads h w at (Other n) = (n ≡ at) × (step_part h w ≡ None)
 Heads h w at _ = ⊥

@@ -2,7 +2,7 @@
 ghost use Rattle.std.specs.Prelude.{◌≡◌, List, [], ◌∷◌, length, IfOk, IfErr, MatchOption};
 ghost use Rattle.lt_texts.specs.Lexemes.{Spans};
 ghost use Rattle.lt_texts.specs.Texts.{left_of};
-ghost use Rattle.lt_grammar.specs.Script.{text_lexemes, header};
+ghost use Rattle.lt_grammar.specs.RowTexts.{text_lexemes, header};
 ghost use Rattle.lt_script.specs.Reading.{Fails, HeaderFails, AtEnd};
 ghost use Rattle.lt_grammar.specs.declared.words.Head.TheVariants.{Header as HeaderWord};
 ghost use Rattle.lt_script.specs.declared.note.Note.{Note};

@@ -5,7 +5,7 @@ use Rattle.lt_texts.specs.Lexemes.{Spans}
 use Rattle.lt_grammar.specs.declared.words.Head.{Head}
 use Rattle.lt_grammar.specs.declared.words.Head.TheVariants.{Header}
 use Rattle.lt_script.specs.declared.read_error.ReadError.TheVariants.{BadHeader, BadByte, BadChar}
-use Rattle.lt_grammar.specs.Script.{header, text_lexemes}
+use Rattle.lt_grammar.specs.RowTexts.{header, text_lexemes}
 use Rattle.lt_script.specs.declared.reading.Next.TheVariants.{Begins, End, Other, BadByte as NoByte, BadChar as NoChar}
 use Rattle.lt_script.specs.Reading.{HeaderFails}
 use Rattle.lt_script.specs.Stops.{SaysNext}
