@@ -263,10 +263,10 @@ command-text AbsEq vs = refl
 command-text RepEq vs = refl
 
 -- the row of a rule
-abbrev RowOfRule : Rule → Type 0
+abbrev RowOfRule : Rule TermTree → Type 0
 RowOfRule r = (w : RuleWord) × (vs : Args (rule_row w).parts) × (made_of (rule_row w) vs ≡ r)
 
-rule-row : (r : Rule) → RowOfRule r
+rule-row : (r : Rule TermTree) → RowOfRule r
 rule-row (by_assume p) = (Assume, (p, tt), refl)
 rule-row (by_weaken p i) = (Weaken, (p, (i, tt)), refl)
 rule-row (by_refl t) = (Refl, (t, tt), refl)
@@ -292,7 +292,7 @@ rule-row (by_thm l) = (Thm, (l, tt), refl)
 abbrev RowOfCommand : Command → Type 0
 RowOfCommand c = ((w : CommandWord) × (vs : Args (command_row w).parts) × (made_of (command_row w) vs ≡ c))
     ⊎ ((w : ItemWord) × (vs : Args (item_row w).parts) × (item_command (made_of (item_row w) vs) ≡ c))
-    ⊎ ((l : Chars) × (t : TermTree) × (lines : List Rule) × (item_command (lemma_item l t lines) ≡ c))
+    ⊎ ((l : Chars) × (t : TermTree) × (lines : List (Rule TermTree)) × (item_command (lemma_item l t lines) ≡ c))
 
 command-row : (c : Command) → RowOfCommand c
 command-row (item_command (type_item n k)) = inr (inl (TypeItem, (n, (k, tt)), refl))
@@ -356,7 +356,7 @@ lines_written (line w ts ∷ lines) more ws rest h =
     (join_written (line_text (rule_of_text (line w ts))) (flat_map line_text (map rule_of_text lines) ++ more) _ _ rest
     (line-written w ts (lines_lexemes lines ws)) (lines_written lines more ws rest h))
 
-written-line : (r : Rule) (ws rest : List Lexeme) → AreWritten (line_text r) ws rest
+written-line : (r : Rule TermTree) (ws rest : List Lexeme) → AreWritten (line_text r) ws rest
     → (w : RuleWord) × (ts : Texts (rule_row w).parts) × (rule_of_text (line w ts) ≡ r) × (ws ≡ row_lexemes (rule_row w) ts rest)
 written-line r ws rest h =
     let row = rule-row r in
@@ -365,7 +365,7 @@ written-line r ws rest h =
     let f = written-row (rule_row w) (rule_text r) vs ws rest (ap rule_text (sym row.2) ∙ rule-text w vs) h in
     (w, f.0, meaning-made (rule_row w) f.0 ∙ ap (made_of (rule_row w)) f.1 ∙ row.2, f.2)
 
-pub written_lines : (rules : List Rule) (more : List Piece) (ws rest : List Lexeme) → AreWritten (flat_map line_text rules ++ more) ws rest
+pub written_lines : (rules : List (Rule TermTree)) (more : List Piece) (ws rest : List Lexeme) → AreWritten (flat_map line_text rules ++ more) ws rest
     → (lines : List LineText) × (map rule_of_text lines ≡ rules) × (mid : List Lexeme) × (ws ≡ lines_lexemes lines mid) × AreWritten more mid rest
 written_lines [] more ws rest h = ([], refl, ws, refl, h)
 written_lines (r ∷ rules) more ws rest h =
@@ -380,10 +380,10 @@ written_lines (r ∷ rules) more ws rest h =
 -- ---- sentences
 
 -- a lemma's pieces behind its statement
-abbrev lemma-tail : List Rule → List Piece
+abbrev lemma-tail : List (Rule TermTree) → List Piece
 lemma-tail rules = flat_map line_text rules ++ (sign_piece kinds.CloseBrace ∷ semicolon ∷ [])
 
-lemma-pieces : (l : Chars) (t : TermTree) (rules : List Rule)
+lemma-pieces : (l : Chars) (t : TermTree) (rules : List (Rule TermTree))
     → command_text (item_command (lemma_item l t rules)) ++ semicolon ∷ [] ≡ keyword "lemma" ∷ name_piece l ∷ colon ∷ statement_piece t ∷ sign_piece kinds.OpenBrace ∷ lemma-tail rules
 lemma-pieces l t rules =
     ap (λ (z : List Piece). keyword "lemma" ∷ name_piece l ∷ colon ∷ statement_piece t ∷ sign_piece kinds.OpenBrace ∷ z)
@@ -432,7 +432,7 @@ item-way f w vs ws rest h =
     let r = written-row (item_row w) (item_text (made_of (item_row w) vs)) vs ws rest (item-text w vs) h in
     (item w r.0, ap (λ (i : Item). a_command (item_command i)) (meaning-made (item_row w) r.0 ∙ ap (made_of (item_row w)) r.1), r.2)
 
-lemma-way : (f : Form) (l : Chars) (t : TermTree) (rules : List Rule) (ws rest : List Lexeme)
+lemma-way : (f : Form) (l : Chars) (t : TermTree) (rules : List (Rule TermTree)) (ws rest : List Lexeme)
     → AreWritten (sentence_text f (a_command (item_command (lemma_item l t rules)))) ws rest → Way f (a_command (item_command (lemma_item l t rules))) ws rest
 lemma-way f l t rules ws rest h =
     let g : AreWritten (keyword "lemma" ∷ name_piece l ∷ colon ∷ statement_piece t ∷ sign_piece kinds.OpenBrace ∷ lemma-tail rules) ws rest =

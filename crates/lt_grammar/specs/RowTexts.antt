@@ -2,6 +2,7 @@
 use Rattle.std.specs.Prelude.{◌≡◌, ℕ, List, [], ◌∷◌, Bool, true, map, codes}
 use Rattle.lt_texts.specs.declared.lexical.TokenKind.TheVariants.{OpenBrace, CloseBrace, Semicolon}
 use Rattle.lt_definitions.specs.Types.{Chars}
+use Rattle.lt_definitions.specs.Terms.{TermTree}
 use Rattle.lt_definitions.specs.Rules.{Rule}
 use Rattle.lt_definitions.specs.Items.{lemma_item}
 use Rattle.lt_texts.specs.Lexemes.{Lexeme, a_name, a_sign}
@@ -31,7 +32,7 @@ abbrev pub lines_lexemes : List LineText → List Lexeme → List Lexeme
 lines_lexemes [] rest = rest
 lines_lexemes (line w ts ∷ lines) rest = row_lexemes (rule_row w) ts (lines_lexemes lines rest)
 
-abbrev pub rule_of_text : LineText → Rule
+abbrev pub rule_of_text : LineText → Rule TermTree
 rule_of_text (line w ts) = row_meaning (rule_row w) ts
 
 -- A way to write a sentence: a header, an item by its row, a lemma, or a further command by its row.

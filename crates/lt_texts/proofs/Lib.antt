@@ -5,4 +5,5 @@ pub mod TokenTexts
 pub mod GapLemmas
 pub mod NextTokens
 pub mod OneReading
+pub mod Readings
 pub mod OneEnding

@@ -18,13 +18,13 @@ abbrev pub IsFirstPlace : Left → ℕ → Type 0
 IsFirstPlace s at = (cs : List ℕ) × IsPast s.ahead cs × (at ≡ place_of s cs)
 
 -- From one place to another stand these lines, and their first tokens at these places.
-abbrev pub LinesAt : Left → List Rule → List ℕ → Left → Type 0
+abbrev pub LinesAt : Left → List (Rule TermTree) → List ℕ → Left → Type 0
 LinesAt s [] [] s' = s' ≡ s
 LinesAt s (r ∷ lines) (at ∷ places) s' = IsFirstPlace s at × (m : Left) × Stands s (line_text r) m × LinesAt m lines places s'
 LinesAt s _ _ s' = ⊥
 
 -- From one place to another stands this lemma, and its lines at these places.
-abbrev pub LemmaAt : Left → Chars → TermTree → List Rule → List ℕ → Left → Type 0
+abbrev pub LemmaAt : Left → Chars → TermTree → List (Rule TermTree) → List ℕ → Left → Type 0
 LemmaAt s l t lines places s' = (a : Left) × Stands s (head_text (lemma_item l t lines) ++ sign_piece OpenBrace ∷ []) a
     × (b : Left) × LinesAt a lines places b × Stands b (sign_piece CloseBrace ∷ semicolon ∷ []) s'
 

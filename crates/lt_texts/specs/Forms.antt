@@ -4,7 +4,8 @@ use Rattle.std.specs.Prelude.{◌≡◌, ℕ, List, [], ◌∷◌, ◌++◌, Boo
 use Rattle.std.specs.List.{flat_map}
 use Rattle.lt_definitions.specs.Types.{Chars, same_name, has_name}
 use Rattle.lt_definitions.specs.Items.{Item}
-use Rattle.lt_texts.specs.Lexemes.{Lexeme, HasLexemes}
+use Rattle.lt_texts.specs.Lexemes.{Lexeme}
+use Rattle.lt_texts.specs.Reading.{IsRead}
 use Rattle.lt_texts.specs.Commands.{Command, item_command}
 use Rattle.lt_texts.specs.Pieces.{Piece, word_piece, number_piece, semicolon, command_text, AreWritten}
 
@@ -84,7 +85,7 @@ IsText f ws cs = (xs : List Sentence) × AreAllowed f xs × AreWritten (sentence
 
 -- The bytes are a text of the form with these commands.
 abbrev pub HasCommands : Form → List ℕ → List Command → Type 0
-HasCommands f text cs = (ws : List Lexeme) × HasLexemes text ws × IsText f ws cs
+HasCommands f text cs = (ws : List Lexeme) × IsRead text ws × IsText f ws cs
 
 -- The bytes are a plain text with these items.
 abbrev pub HasPlainItems : List ℕ → List Item → Type 0

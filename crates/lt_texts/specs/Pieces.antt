@@ -44,7 +44,7 @@ abbrev pub becomes : Piece
 becomes = sign_piece Becomes
 
 -- the text of a line, without its semicolon
-abbrev pub rule_text : Rule → List Piece
+abbrev pub rule_text : Rule TermTree → List Piece
 rule_text (by_assume p) = keyword "assume" ∷ term_piece p ∷ []
 rule_text (by_weaken p i) = keyword "weaken" ∷ term_piece p ∷ number_piece i ∷ []
 rule_text (by_refl t) = keyword "refl" ∷ term_piece t ∷ []
@@ -67,7 +67,7 @@ rule_text (by_ccontr p) = keyword "ccontr" ∷ term_piece p ∷ []
 rule_text (by_thm l) = keyword "thm" ∷ name_piece l ∷ []
 
 -- the text of a line
-abbrev pub line_text : Rule → List Piece
+abbrev pub line_text : Rule TermTree → List Piece
 line_text r = rule_text r ++ semicolon ∷ []
 
 -- the text of an item without its semicolon, and of a lemma without its lines

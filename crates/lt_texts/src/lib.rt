@@ -3,4 +3,5 @@
 
 pub mod lexical;
 pub mod plain_texts;
+pub mod reading;
 pub mod walks;
