@@ -28,7 +28,7 @@ use Rattle.lt_script.specs.Stops.{IsWaiting, Reads, Stops, StopsAt, call_of}
 use Rattle.lt_script.specs.Reading.{IsWhole, IsRest, IsViable, called, IsWrong, AreHeaders, FailsAt, HeaderFailsAt, NextText, AtEnd}
 use Rattle.lt_script.proofs.Taken.{takes_text}
 use Rattle.lt_script.proofs.Sound.{Language, sound, finished}
-use Rattle.lt_script.proofs.Splits.{text_splits}
+use Rattle.lt_grammar.proofs.Splits.{text_splits}
 use Rattle.lt_script.proofs.Places.{wrong, ending, rest_led, whole_led, front, header_front}
 
 -- ---- places, one behind another

@@ -18,7 +18,7 @@ use Rattle.lt_script.specs.Stops.{IsWaiting}
 use Rattle.lt_script.specs.Reading.{IsWhole, IsRest, IsViable, IsFront}
 use Rattle.lt_script.proofs.Taken.{type_kept, term_kept, takes_fixed, takes_text, takes_header}
 use Rattle.lt_script.proofs.Sound.{Language, sound, finished, accepts}
-use Rattle.lt_script.proofs.Splits.{text_splits}
+use Rattle.lt_grammar.proofs.Splits.{text_splits}
 
 -- ---- the machine over two lists of lexemes
 

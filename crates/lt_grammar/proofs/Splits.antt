@@ -5,7 +5,7 @@ use Rattle.lt_definitions.specs.Types.{Chars, TypeTree, TypeTrees, type_variable
 use Rattle.lt_texts.specs.Lexemes.{Lexeme, a_name, a_variable, a_sign}
 use Rattle.lt_texts.specs.Forms.{Form}
 use Rattle.lt_grammar.specs.declared.words.Part.{Part}
-use Rattle.lt_grammar.specs.declared.words.Part.TheVariants.{Label, Number, Variable, Parameters, AType, ATerm, Fixed as Exactly}
+use Rattle.lt_grammar.specs.declared.words.Part.TheVariants.{Label, Number, Variable, Parameters, AType, AStatement, ATerm, Fixed as Exactly}
 use Rattle.lt_texts.specs.Writing.{type_lexemes, types_lexemes, arguments_lexemes, TermText, word, bound, free, lambda, applied, TermTexts, no_more_terms, more_terms, term_lexemes, terms_lexemes}
 use Rattle.lt_grammar.specs.Rows.{Text, Texts, variables_lexemes, part_lexemes, parts_lexemes}
 use Rattle.lt_grammar.specs.Table.{rule_row, item_row, lemma_parts, command_row}
@@ -71,6 +71,7 @@ part-splits Number a x y = refl
 part-splits Variable a x y = refl
 part-splits Parameters a x y = variables-splits a (a_sign kinds.Colon ∷ x) y
 part-splits AType a x y = type_splits a x y
+part-splits AStatement a x y = term_splits a x y
 part-splits ATerm a x y = term_splits a x y
 part-splits (Exactly k) a x y = refl
 
