@@ -6,4 +6,5 @@ pub mod GapLemmas
 pub mod NextTokens
 pub mod OneReading
 pub mod Readings
+pub mod ReadingOrder
 pub mod OneEnding
