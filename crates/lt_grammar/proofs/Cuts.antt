@@ -14,7 +14,7 @@ use Rattle.unicode_ident.proofs.IdentLemmas.{is_xid_continue-ascii}
 use Rattle.lt_texts.specs.declared.lexical.TokenKind.{TokenKind}
 use Rattle.lt_texts.specs.declared.lexical.TokenKind.TheVariants.{Name, TypeVariable, Open, Close, OpenSquare, CloseSquare, Dollar, Percent, Backslash}
 use Rattle.lt_definitions.specs.Types.{Chars, TypeTree, TypeTrees, type_variable, type_constructor, no_types, type_and, row}
-use Rattle.lt_definitions.specs.Terms.{TermTree, free_variable, bound_name, constant, application, abstraction, has_loose, term_nodes}
+use Rattle.lt_definitions.specs.Terms.{TermTree, free_variable, bound_name, constant, application, abstraction, has_loose}
 use Rattle.lt_definitions.specs.Characters.{is_white, starts_name, is_name, behind_gap}
 use Rattle.lt_texts.specs.Spelling.{is_spelt, stops}
 use Rattle.lt_texts.specs.Gaps.{begins_none}
@@ -25,7 +25,7 @@ use Rattle.lt_texts.proofs.CharacterRuns.{starts_name-ascii}
 use Rattle.lt_texts.proofs.GapLemmas.{gap_exact}
 use Rattle.lt_texts.proofs.NextTokens.{spelt_read}
 use Rattle.lt_texts.specs.Writing.{type_lexemes, types_lexemes, arguments_lexemes, TermText, bound, free, lambda, TermTexts, no_more_terms, more_terms, term_lexemes, terms_lexemes}
-use Rattle.lt_texts.specs.Named.{IsTypeNamed, AreTypesNamed, IsNamed}
+use Rattle.lt_texts.specs.Named.{IsTypeNamed, AreTypesNamed, IsNamed, binder_count}
 use Rattle.lt_grammar.proofs.OneWay.{IsClear, type_clear, term_clear}
 use Rattle.lt_grammar.proofs.Shown.{name_at, shown, IsBoundIn, printed_at, or_left, or_right, own_name, bound_body}
 
@@ -188,15 +188,15 @@ Spaced text f = (cs : List ℕ) (ws : List Lexeme) (rest : List ℕ) → Stopped
 
 mutual
   pub cut_type : (t : TypeTree) → IsTypeNamed t → Cutting (printed_type t) (type_lexemes t)
-  cut_type (type_variable a) n cs ws rest k l = cut_variable a cs ws rest n k l
-  cut_type (type_constructor c no_types) n cs ws rest k l = cut_name c cs ws rest n.0 k l
+  cut_type (type_variable a) n cs ws rest k l = cut_variable a cs ws rest n.0 k l
+  cut_type (type_constructor c no_types) n cs ws rest k l = cut_name c cs ws rest n.0.0 k l
   cut_type (type_constructor c (type_and t ts)) n cs ws rest k l =
       let tail : List ℕ = 41 ∷ cs in
       let more : Cuts tail (a_sign Close ∷ ws) rest = cut-sign Close 41 close-sign cs ws rest l in
       let args : Cuts (printed_types ts ++ tail) (types_lexemes ts (a_sign Close ∷ ws)) rest = cut_types ts n.1.1 tail (a_sign Close ∷ ws) rest (close-ends cs) more in
       let first : Cuts (printed_type t ++ (printed_types ts ++ tail)) (type_lexemes t (types_lexemes ts (a_sign Close ∷ ws))) rest = cut_type t n.1.0 _ _ rest (types-stop ts tail (close-ends cs)) args in
       let spaced_first : Cuts (32 ∷ (printed_type t ++ (printed_types ts ++ tail))) (type_lexemes t (types_lexemes ts (a_sign Close ∷ ws))) rest = spaced _ _ rest (type_clear t _) first in
-      let named : Cuts (c ++ (32 ∷ (printed_type t ++ (printed_types ts ++ tail)))) (a_name c ∷ type_lexemes t (types_lexemes ts (a_sign Close ∷ ws))) rest = cut_name c _ _ rest n.0 (space-stops []) spaced_first in
+      let named : Cuts (c ++ (32 ∷ (printed_type t ++ (printed_types ts ++ tail)))) (a_name c ∷ type_lexemes t (types_lexemes ts (a_sign Close ∷ ws))) rest = cut_name c _ _ rest n.0.0 (space-stops []) spaced_first in
       subst (λ (z : List ℕ). Cuts z (a_sign Open ∷ a_name c ∷ type_lexemes t (types_lexemes ts (a_sign Close ∷ ws))) rest)
       (sym (ap (λ (z : List ℕ). 40 ∷ z) (append_assoc c _ cs
       ∙ ap (λ (z : List ℕ). c ++ (32 ∷ z)) (append_assoc (printed_type t) (printed_types ts ++ codes ")") cs
@@ -252,7 +252,7 @@ depth_is_name d h = and_from _ _ (starts_name-ascii 120 (lit< tt)) (digits-go-on
 
 -- what a term under binders meets, so that it is read as it is printed
 abbrev pub Fits : TermTree → List Chars → Type 0
-Fits t bs = IsNamed t × IsBoundIn t bs × (length bs + term_nodes t < 2 ^ 64)
+Fits t bs = IsNamed t × IsBoundIn t bs × (length bs + binder_count t < 2 ^ 64)
 
 cut-free : (x : Chars) (ty : TypeTree) → is_name x ≡ true → IsTypeNamed ty → Cutting (codes "($" ++ (x ++ (codes " " ++ (printed_type ty ++ codes ")")))) (term_lexemes (free x ty))
 cut-free x ty h n cs ws rest k l =
@@ -319,9 +319,9 @@ term-from (constant c ts) h bs g cs ws rest k l = h bs no_more_terms g cs ws res
 term-from (abstraction x ty t) h bs g cs ws rest k l = h bs no_more_terms g cs ws rest k l
 
 head-cut : (t : TermTree) → HeadCut t
-head-cut (free_variable x ty) bs args g cs ws rest k l = cut-free x ty g.0.0 g.0.1 cs (terms_lexemes args ws) rest k l
+head-cut (free_variable x ty) bs args g cs ws rest k l = cut-free x ty g.0.0.0 g.0.1 cs (terms_lexemes args ws) rest k l
 head-cut (bound_name x) bs args g cs ws rest k l = cut-bound x bs (let m = g.2 in omega (arith, m)) g.1 cs (terms_lexemes args ws) rest k l
-head-cut (constant c ts) bs args g cs ws rest k l = cut-constant c ts g.0.0 g.0.1 cs (terms_lexemes args ws) rest k l
+head-cut (constant c ts) bs args g cs ws rest k l = cut-constant c ts g.0.0.0 g.0.1 cs (terms_lexemes args ws) rest k l
 head-cut (application f a) bs args g cs ws rest k l =
     let m = g.2 in
     let second : Cuts (printed_part false bs a ++ cs) (term_lexemes (shown a bs no_more_terms) (terms_lexemes args ws)) rest =

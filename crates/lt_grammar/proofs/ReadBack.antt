@@ -10,17 +10,18 @@ use Rattle.lt_definitions.specs.Alpha.{IsAlphaEqual}
 use Rattle.lt_texts.specs.Lexemes.{Lexeme, Spans, HasLexemes}
 use Rattle.lt_definitions.specs.Printing.{printed_type, printed_term}
 use Rattle.lt_texts.specs.Spelling.{stops}
-use Rattle.lt_definitions.specs.Terms.{TermTree, HasNoLooseNames, term_nodes}
+use Rattle.lt_definitions.specs.Terms.{TermTree, HasNoLooseNames}
 use Rattle.lt_texts.specs.Texts.{Left, end_of}
 use Rattle.lt_definitions.specs.Types.{TypeTree}
 use Rattle.lt_texts.proofs.NextTokens.{all_ahead}
-use Rattle.lt_texts.specs.Named.{IsTypeNamed, IsNamed}
+use Rattle.lt_texts.specs.Named.{IsTypeNamed, IsReadable}
 use Rattle.lt_texts.specs.Writing.{TermText, no_more_terms, type_lexemes, term_lexemes, term_of_text}
+use Rattle.lt_grammar.proofs.Scalars.{type_scalars, term_scalars}
 use Rattle.lt_grammar.proofs.Shown.{shown, none_loose, shown_is_alpha}
 use Rattle.lt_grammar.proofs.Cuts.{Cuts, Cutting, nothing_cut, cuts_spans, cut_type, cut_term}
 
 -- characters that are cut into lexemes are a text of these lexemes
-whole : (cs : List ℕ) (ws : List Lexeme) → all_scalars cs ≡ true → Cuts cs ws [] → HasLexemes (encode_utf8_all cs) ws
+pub whole : (cs : List ℕ) (ws : List Lexeme) → all_scalars cs ≡ true → Cuts cs ws [] → HasLexemes (encode_utf8_all cs) ws
 whole cs ws h c =
     let text = encode_utf8_all cs in
     let s : Left = record { source = text; ahead = cs } in
@@ -34,21 +35,21 @@ whole cs ws h c =
 cut-whole : (text : List ℕ) (f : List Lexeme → List Lexeme) → Cutting text f → Cuts text (f []) []
 cut-whole text f c = subst (λ (z : List ℕ). Cuts z (f []) []) (append-nil text) (c [] [] [] refl (nothing_cut []))
 
-pub printed_types_are_read : (t : TypeTree) → IsTypeNamed t → all_scalars (printed_type t) ≡ true → HasLexemes (encode_utf8_all (printed_type t)) (type_lexemes t [])
-printed_types_are_read t n h = whole (printed_type t) (type_lexemes t []) h (cut-whole (printed_type t) (type_lexemes t) (cut_type t n))
+pub printed_types_are_read : (t : TypeTree) → IsTypeNamed t → HasLexemes (encode_utf8_all (printed_type t)) (type_lexemes t [])
+printed_types_are_read t n = whole (printed_type t) (type_lexemes t []) (type_scalars t n) (cut-whole (printed_type t) (type_lexemes t) (cut_type t n))
 
-pub printed_terms_are_read : (t : TermTree) → HasNoLooseNames t → IsNamed t → term_nodes t < 2 ^ 64 → all_scalars (printed_term [] t) ≡ true
-    → (x : TermText) × HasLexemes (encode_utf8_all (printed_term [] t)) (term_lexemes x []) × IsAlphaEqual (term_of_text x) t
-printed_terms_are_read t l n m h = (
+pub printed_terms_are_read : (t : TermTree) → IsReadable t → (x : TermText) × HasLexemes (encode_utf8_all (printed_term [] t)) (term_lexemes x []) × IsAlphaEqual (term_of_text x) t
+printed_terms_are_read t (l, n, m) = (
   shown t [] no_more_terms,
-  whole (printed_term [] t) (term_lexemes (shown t [] no_more_terms) []) h (cut-whole (printed_term [] t) (term_lexemes (shown t [] no_more_terms)) (cut_term t [] (n, none_loose t l, omega (arith, m)))),
+  whole (printed_term [] t) (term_lexemes (shown t [] no_more_terms) []) (term_scalars t (l, n, m))
+  (cut-whole (printed_term [] t) (term_lexemes (shown t [] no_more_terms)) (cut_term t [] (n, none_loose t l, omega (arith, m)))),
   shown_is_alpha t l m,
 )
 
-pub printed_terms_are_read_within : (t : TermTree) → HasNoLooseNames t → IsNamed t → term_nodes t < 2 ^ 64
+pub printed_terms_are_read_within : (t : TermTree) → IsReadable t
     → (x : TermText) × IsAlphaEqual (term_of_text x) t × ((s : Left) (rest : List ℕ) → s.ahead ≡ printed_term [] t ++ rest → stops Name rest ≡ true
     → Spans s (term_lexemes x []) (record s { ahead = rest }))
-printed_terms_are_read_within t l n m = (
+printed_terms_are_read_within t (l, n, m) = (
   shown t [] no_more_terms,
   shown_is_alpha t l m,
   λ s rest e k. cuts_spans s (term_lexemes (shown t [] no_more_terms) []) rest

@@ -4,13 +4,14 @@ use Rattle.std.specs.Prelude.{◌&&◌, ◌||◌, not, ◌^◌}
 use Rattle.std.specs.Fmt.{decimal}
 use Rattle.std.proofs.lemmas.Fmt.{decimal_injective}
 use Rattle.lt_definitions.specs.Types.{Chars, same_name, has_name, TypeTree}
-use Rattle.lt_definitions.specs.Terms.{TermTree, free_variable, bound_name, constant, application, abstraction, has_loose, HasNoLooseNames, term_nodes}
+use Rattle.lt_definitions.specs.Terms.{TermTree, free_variable, bound_name, constant, application, abstraction, has_loose, HasNoLooseNames}
 use Rattle.lt_definitions.specs.Alpha.{IsAlphaEqual}
 use Rattle.lt_nameless.specs.Nameless.{Nameless, nameless_application, nameless_abstraction, deeper, nameless_name, nameless}
 use Rattle.lt_definitions.specs.Printing.{printed_bound}
 use Rattle.lt_definitions.proofs.SameNames.{bool_cases, true-name, false-name}
 use Rattle.lt_nameless.proofs.BindingLemmas.{if-true, if-false}
 use Rattle.lt_nameless.proofs.Alphas.{name-hit, name-miss, nameless-alpha}
+use Rattle.lt_texts.specs.Named.{binder_count}
 use Rattle.lt_texts.specs.Writing.{TermText, word, bound, free, lambda, applied, TermTexts, no_more_terms, more_terms, term_of_text, applied_to}
 
 abbrev pub with_arguments : TermText → TermTexts → TermText
@@ -104,7 +105,7 @@ bound_body x ty b bs h y l = elim (bool_cases (same_name y x)) [
   | inr n ↦ or_right (same_name y x) (has_name y bs) (h y (ap (λ (z : Bool). not z && has_loose y b) n ∙ l))
 ]
 
-pub shown_alike : (t : TermTree) (bs : List Chars) (args : TermTexts) → IsBoundIn t bs → length bs + term_nodes t < 2 ^ 64
+pub shown_alike : (t : TermTree) (bs : List Chars) (args : TermTexts) → IsBoundIn t bs → length bs + binder_count t < 2 ^ 64
     → nameless (names_at bs) (term_of_text (shown t bs args)) ≡ applied-all (nameless bs t) (names_at bs) args
 shown_alike (free_variable x ty) bs args h m = with-alike (free x ty) (names_at bs) args
 shown_alike (bound_name x) bs args h m =
@@ -122,5 +123,5 @@ shown_alike (abstraction x ty b) bs args h m =
 pub none_loose : (t : TermTree) → HasNoLooseNames t → IsBoundIn t []
 none_loose t h x l = let clash : false ≡ true = sym (h x) ∙ l in absurd (cc clash)
 
-pub shown_is_alpha : (t : TermTree) → HasNoLooseNames t → term_nodes t < 2 ^ 64 → IsAlphaEqual (term_of_text (shown t [] no_more_terms)) t
+pub shown_is_alpha : (t : TermTree) → HasNoLooseNames t → binder_count t < 2 ^ 64 → IsAlphaEqual (term_of_text (shown t [] no_more_terms)) t
 shown_is_alpha t h m = nameless-alpha [] (term_of_text (shown t [] no_more_terms)) t (shown_alike t [] no_more_terms (none_loose t h) (omega (arith, m)))
