@@ -39,7 +39,7 @@ pub record Cut (cs : List ℕ) (w : Lexeme) (rest : List ℕ) : Type 0 where
   pub same : w ≡ lexeme kind word
 
 -- the characters are cut into these lexemes, and the rest
-pub Cuts : List ℕ → List Lexeme → List ℕ → Type 0
+unfoldable pub Cuts : List ℕ → List Lexeme → List ℕ → Type 0
 Cuts cs [] rest = cs ≡ rest
 Cuts cs (w ∷ ws) rest = (more : List ℕ) × Cut cs w more × Cuts more ws rest
 
@@ -66,7 +66,7 @@ name-begins : (d : ℕ) (cs : List ℕ) → starts_name d ≡ true → begins_no
 name-begins d cs h = λ i. not (other d 35 h (starts_name-ascii 35 (lit< tt)) i || (other d 32 h (starts_name-ascii 32 (lit< tt)) i
     || (other d 9 h (starts_name-ascii 9 (lit< tt)) i || (other d 13 h (starts_name-ascii 13 (lit< tt)) i || other d 10 h (starts_name-ascii 10 (lit< tt)) i))))
 
-passed : (rest : List ℕ) → begins_none rest ≡ true → behind_gap false rest ≡ rest
+pub passed : (rest : List ℕ) → begins_none rest ≡ true → behind_gap false rest ≡ rest
 passed [] h = refl
 passed (c ∷ cs) h = by (c == 35) (is_white c) h
   where
@@ -91,10 +91,10 @@ unfolding Cuts
 cut_variable a cs ws rest h k l = (cs, record { kind = TypeVariable; word = 39 ∷ a; gap = refl; spelt = h; stops = stops-variable cs k; same = refl }, l)
 
 -- a sign of one character
-abbrev IsSign : TokenKind → ℕ → Type 0
+abbrev pub IsSign : TokenKind → ℕ → Type 0
 IsSign kind c = ((cs : List ℕ) → behind_gap false (c ∷ cs) ≡ c ∷ cs) × (is_spelt kind (c ∷ []) ≡ true) × ((cs : List ℕ) → stops kind cs ≡ true) × (a_sign kind ≡ lexeme kind (c ∷ []))
 
-cut-sign : (kind : TokenKind) (c : ℕ) → IsSign kind c → (cs : List ℕ) (ws : List Lexeme) (rest : List ℕ) → Cuts cs ws rest → Cuts (c ∷ cs) (a_sign kind ∷ ws) rest
+pub cut-sign : (kind : TokenKind) (c : ℕ) → IsSign kind c → (cs : List ℕ) (ws : List Lexeme) (rest : List ℕ) → Cuts cs ws rest → Cuts (c ∷ cs) (a_sign kind ∷ ws) rest
 unfolding Cuts
 cut-sign kind c k cs ws rest l = (cs, record { kind = kind; word = c ∷ []; gap = k.0 cs; spelt = k.1; stops = k.2 cs; same = k.3 }, l)
 
@@ -154,13 +154,13 @@ spaced cs [] rest n l = absurd n
 spaced cs (w ∷ ws) rest n (more, c, l) = (more, record { kind = c.kind; word = c.word; gap = c.gap; spelt = c.spelt; stops = c.stops; same = c.same }, l)
 
 -- what doesn't go on a name
-stops-at : (c : ℕ) (cs : List ℕ) → c < 128 → (is_ascii_alphanumeric c || (c == 95)) ≡ false → stops Name (c ∷ cs) ≡ true
+pub stops-at : (c : ℕ) (cs : List ℕ) → c < 128 → (is_ascii_alphanumeric c || (c == 95)) ≡ false → stops Name (c ∷ cs) ≡ true
 stops-at c cs m h = ap not (is_xid_continue-ascii c m ∙ h)
 
-abbrev Stopped : List ℕ → Type 0
+abbrev pub Stopped : List ℕ → Type 0
 Stopped cs = stops Name cs ≡ true
 
-space-stops : (cs : List ℕ) → Stopped (32 ∷ cs)
+pub space-stops : (cs : List ℕ) → Stopped (32 ∷ cs)
 space-stops cs = stops-at 32 cs (lit< tt) refl
 
 close-ends : (cs : List ℕ) → Stopped (41 ∷ cs)

@@ -171,14 +171,14 @@ one_text AStatement a b x y m n e = one_term a b x y m n e
 one_text ATerm a b x y m n e = one_term a b x y m n e
 one_text (Exactly k) a b x y m n e = (refl, cc e)
 
-fixed-clear : (k : Fixed) (x : List Lexeme) → IsClear (fixed k ∷ x)
-fixed-clear Semicolon x = tt
-fixed-clear Colon x = tt
-fixed-clear Becomes x = tt
-fixed-clear OpenBrace x = tt
-fixed-clear By x = tt
-fixed-clear Abs x = tt
-fixed-clear Rep x = tt
+pub fixed_clear : (k : Fixed) (x : List Lexeme) → IsClear (fixed k ∷ x)
+fixed_clear Semicolon x = tt
+fixed_clear Colon x = tt
+fixed_clear Becomes x = tt
+fixed_clear OpenBrace x = tt
+fixed_clear By x = tt
+fixed_clear Abs x = tt
+fixed_clear Rep x = tt
 
 pub type_clear : (t : TypeTree) (x : List Lexeme) → IsClear (type_lexemes t x)
 type_clear (type_variable a) x = tt
@@ -194,7 +194,7 @@ part-clear Parameters (a ∷ more) x = tt
 part-clear AType a x = type_clear a x
 part-clear AStatement a x = term_clear a x
 part-clear ATerm a x = term_clear a x
-part-clear (Exactly k) a x = fixed-clear k x
+part-clear (Exactly k) a x = fixed_clear k x
 
 pub parts_clear : (ps : List Part) (a : Texts ps) (x : List Lexeme) → IsClear x → IsClear (parts_lexemes ps a x)
 parts_clear [] a x n = n

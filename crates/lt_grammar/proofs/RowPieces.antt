@@ -214,7 +214,7 @@ row_pieces r vs = word_piece r.word ∷ parts_pieces r.parts vs []
 abbrev made_of : {C : Type 0} → (r : Row C) → Args r.parts → C
 made_of r vs = made r.parts r.make vs
 
-rule-text : (w : RuleWord) (vs : Args (rule_row w).parts) → rule_text (made_of (rule_row w) vs) ≡ row_pieces (rule_row w) vs
+pub rule-text : (w : RuleWord) (vs : Args (rule_row w).parts) → rule_text (made_of (rule_row w) vs) ≡ row_pieces (rule_row w) vs
 rule-text Assume vs = refl
 rule-text Weaken vs = refl
 rule-text Refl vs = refl
@@ -236,7 +236,7 @@ rule-text Select vs = refl
 rule-text Ccontr vs = refl
 rule-text Thm vs = refl
 
-item-text : (w : ItemWord) (vs : Args (item_row w).parts) → item_text (made_of (item_row w) vs) ≡ row_pieces (item_row w) vs
+pub item-text : (w : ItemWord) (vs : Args (item_row w).parts) → item_text (made_of (item_row w) vs) ≡ row_pieces (item_row w) vs
 item-text TypeItem vs = refl
 item-text Const vs = refl
 item-text Axiom vs = refl
@@ -263,10 +263,10 @@ command-text AbsEq vs = refl
 command-text RepEq vs = refl
 
 -- the row of a rule
-abbrev RowOfRule : Rule TermTree → Type 0
+abbrev pub RowOfRule : Rule TermTree → Type 0
 RowOfRule r = (w : RuleWord) × (vs : Args (rule_row w).parts) × (made_of (rule_row w) vs ≡ r)
 
-rule-row : (r : Rule TermTree) → RowOfRule r
+pub rule-row : (r : Rule TermTree) → RowOfRule r
 rule-row (by_assume p) = (Assume, (p, tt), refl)
 rule-row (by_weaken p i) = (Weaken, (p, (i, tt)), refl)
 rule-row (by_refl t) = (Refl, (t, tt), refl)
@@ -289,12 +289,12 @@ rule-row (by_ccontr p) = (Ccontr, (p, tt), refl)
 rule-row (by_thm l) = (Thm, (l, tt), refl)
 
 -- a command by its row, or a lemma
-abbrev RowOfCommand : Command → Type 0
+abbrev pub RowOfCommand : Command → Type 0
 RowOfCommand c = ((w : CommandWord) × (vs : Args (command_row w).parts) × (made_of (command_row w) vs ≡ c))
     ⊎ ((w : ItemWord) × (vs : Args (item_row w).parts) × (item_command (made_of (item_row w) vs) ≡ c))
     ⊎ ((l : Chars) × (t : TermTree) × (lines : List (Rule TermTree)) × (item_command (lemma_item l t lines) ≡ c))
 
-command-row : (c : Command) → RowOfCommand c
+pub command-row : (c : Command) → RowOfCommand c
 command-row (item_command (type_item n k)) = inr (inl (TypeItem, (n, (k, tt)), refl))
 command-row (item_command (const_item n ty)) = inr (inl (Const, (n, (tt, (ty, tt))), refl))
 command-row (item_command (axiom_item l t)) = inr (inl (Axiom, (l, (tt, (t, tt))), refl))
@@ -338,7 +338,7 @@ written-row r text vs ws rest e h =
     let s = f.4 in
     (f.0, f.1, g.1 ∙ ap (λ (z : List Lexeme). a_name r.word ∷ z) (f.3 ∙ ap (parts_lexemes r.parts f.0) (s.1 ∙ ap (λ (z : List Lexeme). a_sign kinds.Semicolon ∷ z) s.2)))
 
-meaning-made : {C : Type 0} (r : Row C) (ts : Texts r.parts) → row_meaning r ts ≡ made_of r (args r.parts ts)
+pub meaning-made : {C : Type 0} (r : Row C) (ts : Texts r.parts) → row_meaning r ts ≡ made_of r (args r.parts ts)
 meaning-made r ts = given-made r.parts r.make ts
 
 -- ---- lines
