@@ -211,7 +211,7 @@ pieces-append (Exactly k ∷ ps) vs more later = ap (λ (z : List Piece). fixed_
 abbrev pub row_pieces : {C : Type 0} → (r : Row C) → Args r.parts → List Piece
 row_pieces r vs = word_piece r.word ∷ parts_pieces r.parts vs []
 
-abbrev made_of : {C : Type 0} → (r : Row C) → Args r.parts → C
+abbrev pub made_of : {C : Type 0} → (r : Row C) → Args r.parts → C
 made_of r vs = made r.parts r.make vs
 
 pub rule-text : (w : RuleWord) (vs : Args (rule_row w).parts) → rule_text (made_of (rule_row w) vs) ≡ row_pieces (rule_row w) vs
