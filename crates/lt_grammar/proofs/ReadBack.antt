@@ -16,6 +16,8 @@ use Rattle.lt_definitions.specs.Types.{TypeTree}
 use Rattle.lt_texts.proofs.NextTokens.{all_ahead}
 use Rattle.lt_texts.specs.Named.{IsTypeNamed, IsReadable}
 use Rattle.lt_texts.specs.Writing.{TermText, no_more_terms, type_lexemes, term_lexemes, term_of_text}
+use Rattle.lt_texts.specs.Reading.{Reads, IsRead}
+use Rattle.lt_texts.proofs.Readings.{spans_reads, lexemes_read}
 use Rattle.lt_grammar.proofs.Scalars.{type_scalars, term_scalars}
 use Rattle.lt_grammar.proofs.Shown.{shown, none_loose, shown_is_alpha}
 use Rattle.lt_grammar.proofs.Cuts.{Cuts, Cutting, nothing_cut, cuts_spans, cut_type, cut_term}
@@ -55,3 +57,20 @@ printed_terms_are_read_within t (l, n, m) = (
   λ s rest e k. cuts_spans s (term_lexemes (shown t [] no_more_terms) []) rest
       (subst (λ (z : List ℕ). Cuts z (term_lexemes (shown t [] no_more_terms) []) rest) (sym e) (cut_term t [] (n, none_loose t l, omega (arith, m)) rest [] rest k (nothing_cut rest))),
 )
+
+-- ---- the laws
+
+pub printed_type_read : (t : TypeTree) → IsTypeNamed t → IsRead (encode_utf8_all (printed_type t)) (type_lexemes t [])
+printed_type_read t n = lexemes_read (encode_utf8_all (printed_type t)) (type_lexemes t []) (printed_types_are_read t n)
+
+pub printed_term_read : (t : TermTree) → IsReadable t → (x : TermText) × IsRead (encode_utf8_all (printed_term [] t)) (term_lexemes x []) × IsAlphaEqual (term_of_text x) t
+printed_term_read t r =
+    let k = printed_terms_are_read t r in
+    (k.0, lexemes_read (encode_utf8_all (printed_term [] t)) (term_lexemes k.0 []) k.1, k.2)
+
+pub printed_term_read_within : (t : TermTree) → IsReadable t
+    → (x : TermText) × IsAlphaEqual (term_of_text x) t × ((s : Left) (rest : List ℕ) → s.ahead ≡ printed_term [] t ++ rest → stops Name rest ≡ true
+    → Reads s (term_lexemes x []) (record s { ahead = rest }))
+printed_term_read_within t r =
+    let k = printed_terms_are_read_within t r in
+    (k.0, k.1, λ s rest e q. spans_reads s (term_lexemes k.0 []) (record s { ahead = rest }) (k.2 s rest e q))
