@@ -10,7 +10,7 @@ use Rattle.lt_definitions.specs.Types.{Chars, TypeTree}
 use Rattle.lt_definitions.specs.Terms.{TermTree}
 use Rattle.lt_definitions.specs.Rules.{Rule, by_assume, by_weaken, by_refl, by_sym, by_trans, by_cong, by_abs, by_beta, by_eta, by_eqmp, by_impI, by_mp, by_allI, by_allE, by_iff, by_inst, by_tinst, by_select, by_ccontr, by_thm}
 use Rattle.lt_definitions.specs.Items.{Item, type_item, const_item, axiom_item, def_item, typedef_item, lemma_item}
-use Rattle.lt_definitions.specs.Printing.{printed_type, printed_term, type_variable_name}
+use Rattle.lt_definitions.specs.Printing.{printed_type, printed_term, type_variable_name, words}
 use Rattle.lt_texts.specs.Lexemes.{Lexeme, a_name, a_variable, a_number, a_sign}
 use Rattle.lt_texts.specs.Commands.{Command, item_command, law_command, corr_command, relator_command, property_command, domain_command, rule_command, lifting_command, lifting_typedef_command, quotient_type_command, lift_command, parametric_command, param_rule_command, equiv_command, implies_command, carry_command, abs_eq_command, rep_eq_command}
 use Rattle.lt_texts.specs.Writing.{TermText, type_lexemes, term_lexemes, term_of_text}
@@ -149,3 +149,7 @@ printed_piece (variable_piece a) = type_variable_name a
 printed_piece (type_piece ty) = printed_type ty
 printed_piece (statement_piece t) = printed_term [] t
 printed_piece (term_piece t) = printed_term [] t
+
+-- pieces with one space between
+abbrev pub printed_pieces : List Piece → Chars
+printed_pieces ps = words (map printed_piece ps)

@@ -4,4 +4,5 @@
 pub mod lexical;
 pub mod plain_texts;
 pub mod reading;
+pub mod text_examples;
 pub mod walks;
