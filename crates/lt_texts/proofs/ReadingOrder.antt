@@ -5,11 +5,11 @@ use Rattle.lt_texts.specs.declared.lexical.Token.{Token as Placed}
 use Rattle.lt_texts.specs.declared.lexical.Lexed.{Lexed}
 use Rattle.lt_texts.specs.declared.lexical.Lexed.TheVariants.{Token, End, BadByte, BadChar}
 use Rattle.lt_texts.specs.Tokens.{Scanned}
-use Rattle.lt_texts.specs.Texts.{Left, lexed, place_of}
+use Rattle.lt_texts.specs.Texts.{Left, place_of}
 use Rattle.lt_texts.specs.Lexemes.{Lexeme, lexeme}
 use Rattle.lt_texts.specs.Reading.{IsNextToken, Shows, Reads}
 use Rattle.lt_texts.proofs.GapLemmas.{gap_exact}
-use Rattle.lt_texts.proofs.Readings.{Finds, next_found, shown_lexed}
+use Rattle.lt_texts.proofs.Readings.{next_found, shown_lexed}
 
 -- what is found behind the gap is one
 pub one_found : (s : Left) (t u : Scanned) (n : IsNextToken s t) (m : IsNextToken s u) → n.found ≡ m.found

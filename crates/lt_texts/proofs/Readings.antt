@@ -1,17 +1,16 @@
 -- What stands next by the longest gap and token is what the functions that go through a text find, and each text has such lexemes.
-use Rattle.std.proofs.Common.{◌≡◌, ◌≢◌, ◌↔◌, ℕ, zero, suc, ◌<◌, ◌≤◌, ◌∙◌, ap, sym, refl, subst, inl, inr, Bool, true, false, List, [], ◌∷◌, ◌++◌, length, arith, Option, Some, None, eqb, eq-eqb}
+use Rattle.std.proofs.Common.{◌≡◌, ◌↔◌, ℕ, zero, suc, ◌<◌, ◌≤◌, ◌∙◌, ap, sym, refl, subst, Bool, true, false, List, [], ◌∷◌, ◌++◌, length, arith, Option, Some, None, eq-eqb}
 use Rattle.std.specs.Prelude.{◌==◌, if◌then◌else◌, IsUtf8, MatchOption}
 use Rattle.std.proofs.lemmas.Str.{utf8_valid_len-IsUtf8}
 use Rattle.std.proofs.lemmas.Bool.{eqb-true, ne_eqb}
 use Rattle.lt_texts.specs.declared.lexical.Token.{Token as Placed}
-use Rattle.lt_texts.specs.declared.lexical.TokenKind.{TokenKind}
 use Rattle.lt_texts.specs.declared.lexical.Lexed.{Lexed}
 use Rattle.lt_texts.specs.declared.lexical.Lexed.TheVariants.{Token, End, BadByte, BadChar}
 use Rattle.lt_texts.specs.Tokens.{Scanned, token_at}
 use Rattle.lt_texts.specs.Spelling.{is_spelt, NoToken, IsLongest}
 use Rattle.lt_texts.specs.Gaps.{IsPast}
-use Rattle.lt_texts.specs.Texts.{Left, left_of, end_of, place_of, past_gap, ending, lexed, lexed_at, lexed_by, after, after_by, spelling, spelling_by, IsToken}
-use Rattle.lt_texts.specs.Lexemes.{Lexeme, lexeme, IsNextLexeme, Spans, HasLexemes}
+use Rattle.lt_texts.specs.Texts.{Left, left_of, end_of, place_of, past_gap, lexed, lexed_at, lexed_by, after, after_by, spelling, spelling_by, IsToken}
+use Rattle.lt_texts.specs.Lexemes.{Lexeme, lexeme, Spans, HasLexemes}
 use Rattle.lt_texts.specs.Reading.{IsNextToken, Shows, Reads, IsRead}
 use Rattle.lt_texts.proofs.GapLemmas.{gap_exact}
 use Rattle.lt_texts.proofs.OneReading.{one_lexing}

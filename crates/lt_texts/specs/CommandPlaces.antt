@@ -5,7 +5,7 @@ use Rattle.lt_texts.specs.declared.lexical.TokenKind.TheVariants.{OpenBrace, Clo
 use Rattle.lt_definitions.specs.Types.{Chars}
 use Rattle.lt_definitions.specs.Terms.{TermTree}
 use Rattle.lt_definitions.specs.Rules.{Rule}
-use Rattle.lt_definitions.specs.Items.{Item, lemma_item}
+use Rattle.lt_definitions.specs.Items.{lemma_item}
 use Rattle.lt_texts.specs.Texts.{Left, here, place_of}
 use Rattle.lt_texts.specs.Gaps.{IsPast}
 use Rattle.lt_texts.specs.Commands.{Command, item_command}

@@ -1,11 +1,6 @@
 use Rattle.std.proofs.Common.{refl, [], ◌∷◌, codes}
-use Rattle.lt_definitions.specs.Types.{bool}
-use Rattle.lt_definitions.specs.Rules.{by_thm}
-use Rattle.lt_definitions.specs.Items.{const_item, lemma_item}
-use Rattle.lt_definitions.specs.Samples.{p}
-use Rattle.lt_texts.specs.Commands.{item_command, carry_command}
-use Rattle.lt_texts.specs.Forms.{header_again, a_command}
-use Rattle.lt_texts.specs.Writing.{word}
+use Rattle.lt_texts.specs.Commands.{carry_command}
+use Rattle.lt_texts.specs.Forms.{a_command}
 use Rattle.lt_texts.proofs.text_examples.a_theory_text.Goals as goal
 
 pub returns : goal.returns
