@@ -9,7 +9,8 @@ ghost use Rattle.lt_maker.specs.Views.{made_of};
 
 use crate::maker::Maker;
 use lt_texts::lexical::TokenKind;
-use lt_grammar::words::{Fixed, Head, Mode, Part, RuleWord};
+use lt_grammar::words::{Fixed, Head, Part, RuleWord};
+use lt_script::mode::Mode;
 use lt_script::Note;
 use lt_script::symbol::Symbol;
 use lt_script::table::{
@@ -350,6 +351,7 @@ fn take_part_of(
         Part::Variable => Ok(take_variable(alloc, made, word)?),
         Part::Parameters => Ok(take_parameters(alloc, stack, made, word)?),
         Part::AType => Ok(take_whole_type(alloc, stack, made, word)?),
+        Part::AStatement => Ok(take_whole_term(alloc, stack, made, word)?),
         Part::ATerm => Ok(take_whole_term(alloc, stack, made, word)?),
         Part::Fixed(fixed) => Ok(is_fixed(fixed, &word)),
     }

@@ -6,7 +6,7 @@ use Rattle.lt_definitions.specs.Types.{Chars, TypeTree, TypeTrees, type_variable
 use Rattle.lt_definitions.specs.Terms.{TermTree, constant, application}
 use Rattle.lt_definitions.proofs.SameNames.{listed-row}
 use Rattle.lt_grammar.specs.declared.words.Part.{Part}
-use Rattle.lt_grammar.specs.declared.words.Part.TheVariants.{Label as ALabel, Number as ANumber, Variable as AVariable, Parameters, AType, ATerm, Fixed}
+use Rattle.lt_grammar.specs.declared.words.Part.TheVariants.{Label as ALabel, Number as ANumber, Variable as AVariable, Parameters, AType, AStatement, ATerm, Fixed}
 use Rattle.lt_grammar.specs.declared.words.Head.TheVariants.{Lemma, Item as AnItem, Command as ACommand}
 use Rattle.lt_texts.specs.Writing.{TermText, word, bound, free, lambda, TermTexts, no_more_terms, more_terms, term_of_text, applied_to}
 use Rattle.lt_texts.specs.Writing as writing
@@ -150,6 +150,7 @@ pushed_part ANumber a k = record k { numbers = a ∷ k.numbers }
 pushed_part AVariable a k = record k { labels = a ∷ k.labels }
 pushed_part Parameters a k = record k { names = a ∷ k.names }
 pushed_part AType a k = record k { types = a ∷ k.types }
+pushed_part AStatement a k = record k { wholes = term_of_text a ∷ k.wholes }
 pushed_part ATerm a k = record k { wholes = term_of_text a ∷ k.wholes }
 pushed_part (Fixed x) a k = k
 
@@ -183,6 +184,7 @@ part-makes ANumber a ns m r = refl
 part-makes AVariable a ns m r = refl
 part-makes Parameters a ns m r = parameters-make a ns m ∙ no-params a (put_all ns m) (put_all ns m).params r.params
 part-makes AType a ns m r = ap (put KeepType) (type-makes a ns m) ∙ kept a (put_all ns m) r.forming
+part-makes AStatement a ns m r = ap (put KeepTerm) (term-makes a ns m r.forming) ∙ term-kept-by (term_of_text a) (put_all ns m) (put_all ns m).terms r.terms
 part-makes ATerm a ns m r = ap (put KeepTerm) (term-makes a ns m r.forming) ∙ term-kept-by (term_of_text a) (put_all ns m) (put_all ns m).terms r.terms
 part-makes (Fixed x) a ns m r = refl
 
@@ -192,6 +194,7 @@ still-ready ANumber a k r = record { forming = r.forming; terms = r.terms; param
 still-ready AVariable a k r = record { forming = r.forming; terms = r.terms; params = r.params }
 still-ready Parameters a k r = record { forming = r.forming; terms = r.terms; params = r.params }
 still-ready AType a k r = record { forming = r.forming; terms = r.terms; params = r.params }
+still-ready AStatement a k r = record { forming = r.forming; terms = r.terms; params = r.params }
 still-ready ATerm a k r = record { forming = r.forming; terms = r.terms; params = r.params }
 still-ready (Fixed x) a k r = r
 
@@ -211,6 +214,7 @@ meaning ANumber a = a
 meaning AVariable a = a
 meaning Parameters a = a
 meaning AType a = a
+meaning AStatement a = term_of_text a
 meaning ATerm a = term_of_text a
 meaning (Fixed x) a = tt
 
@@ -224,6 +228,7 @@ pop-pushed ANumber a k = refl
 pop-pushed AVariable a k = refl
 pop-pushed Parameters a k = refl
 pop-pushed AType a k = refl
+pop-pushed AStatement a k = refl
 pop-pushed ATerm a k = refl
 pop-pushed (Fixed x) a k = refl
 
@@ -239,6 +244,7 @@ applied-given ANumber f a = refl
 applied-given AVariable f a = refl
 applied-given Parameters f a = refl
 applied-given AType f a = refl
+applied-given AStatement f a = refl
 applied-given ATerm f a = refl
 applied-given (Fixed x) f a = refl
 

@@ -1,13 +1,13 @@
 -- The first place where the machine stops is the first where no text goes on.
+use Rattle.lt_script.specs.Modes.{form_of}
 use Rattle.std.proofs.Common.{◌≡◌, ℕ, ◌∙◌, ap, ap₂, sym, refl, subst, List, [], ◌∷◌, ◌++◌, Option, Some, None, append_assoc, append-nil, inl, inr, ◌⊎◌, codes}
 use Rattle.lt_texts.specs.declared.lexical.TokenKind.TheVariants as kinds
 use Rattle.lt_texts.specs.Lexemes.{Lexeme, a_name, a_variable, a_sign}
-use Rattle.lt_texts.specs.Forms.{Form}
-use Rattle.lt_grammar.specs.declared.words.Part.TheVariants.{Label, Number, Variable, Parameters, AType, ATerm, Fixed as Exactly}
+use Rattle.lt_script.specs.declared.mode.Mode.{Mode}
+use Rattle.lt_grammar.specs.declared.words.Part.TheVariants.{Label, Number, Variable, Parameters, AType, AStatement, ATerm, Fixed as Exactly}
 use Rattle.lt_grammar.specs.declared.words.Head.TheVariants.{Header}
 use Rattle.lt_grammar.specs.Rows.{fixed, number}
 use Rattle.lt_grammar.specs.RowTexts.{PartText, header, text_lexemes, texts_lexemes, MayStand}
-use Rattle.lt_grammar.proofs.RowReading.{header_stands}
 use Rattle.lt_script.specs.declared.symbol.Symbol.{Symbol}
 use Rattle.lt_script.specs.declared.symbol.Symbol.TheVariants.{«Type», Constructor, MoreTypes, Term, Inside, Brackets, Arguments, MoreTerms, BoundName, FreeName, CloseFree, LambdaName, Body, CloseLambda, KeepType, KeepTerm, Part as APartOf, One, Lines, EndLine, APart, AHeader}
 use Rattle.lt_script.specs.declared.note.Note.{Note}
@@ -78,13 +78,14 @@ closing (APartOf Number ∷ s) b = let r = closing s (count 1 ∷ b) in (number 
 closing (APartOf Variable ∷ s) b = let r = closing s (variable x ∷ b) in (a_variable x ∷ r.0, r.1, r.2)
 closing (APartOf Parameters ∷ s) b = let r = closing s (keep_parameters ∷ b) in (a_sign kinds.Colon ∷ r.0, r.1, r.2)
 closing (APartOf AType ∷ s) b = let r = closing s (keep_type ∷ type_alone x ∷ b) in (a_name x ∷ r.0, r.1, type-done s (type_alone x ∷ b) r.0 ∙ r.2)
+closing (APartOf AStatement ∷ s) b = let r = closing s (keep_term ∷ bound_name x ∷ b) in (a_sign kinds.Percent ∷ a_name x ∷ r.0, r.1, term-done s (bound_name x ∷ b) r.0 ∙ r.2)
 closing (APartOf ATerm ∷ s) b = let r = closing s (keep_term ∷ bound_name x ∷ b) in (a_sign kinds.Percent ∷ a_name x ∷ r.0, r.1, term-done s (bound_name x ∷ b) r.0 ∙ r.2)
 closing (APartOf (Exactly k) ∷ s) b = let r = closing s b in (fixed k ∷ r.0, r.1, ap finished (takes_fixed k s b r.0) ∙ r.2)
 closing (One ∷ s) b = let r = closing s b in (number 1 ∷ r.0, r.1, r.2)
 closing (Lines ∷ s) b = let r = closing s b in (a_sign kinds.CloseBrace ∷ r.0, r.1, r.2)
 closing (EndLine w ∷ s) b = let r = closing s (end_line w ∷ b) in (a_sign kinds.Semicolon ∷ r.0, r.1, r.2)
-closing (APart h ∷ s) b = let r = closing s (begin Header ∷ b) in (text_lexemes h header r.0, r.1, ap finished (takes_text h header s b r.0 (header_stands h)) ∙ r.2)
-closing (AHeader h ∷ s) b = let r = closing s (begin Header ∷ b) in (text_lexemes h header r.0, r.1, ap finished (takes_header h s b r.0) ∙ r.2)
+closing (APart h ∷ s) b = let r = closing s (begin Header ∷ b) in (text_lexemes (form_of h) header r.0, r.1, ap finished (takes_text h header s b r.0 tt) ∙ r.2)
+closing (AHeader h ∷ s) b = let r = closing s (begin Header ∷ b) in (text_lexemes (form_of h) header r.0, r.1, ap finished (takes_header h s b r.0) ∙ r.2)
 
 -- ---- fronts
 
@@ -178,38 +179,38 @@ module _ (start : Symbol) (L : List Lexeme → Type 0) (led : IsLed start L) whe
       by (inl h) = absurd (cc h)
       by (inr (xs, rest, b, h, k)) = unended start xs b k (w ∷ ws) rest m e g h
 
-pub rest_led : (h : Form) → IsLed (APart h) (IsRest h)
+pub rest_led : (h : Mode) → IsLed (APart h) (IsRest h)
 rest_led h ws ([], m, e) = inl e
-rest_led h ws (p ∷ ps, m, e) = inr (text_lexemes h p [], texts_lexemes h ps [], text_notes p [], e ∙ text_splits h p [] (texts_lexemes h ps []), takes_text h p [] [] [] m.0)
+rest_led h ws (p ∷ ps, m, e) = inr (text_lexemes (form_of h) p [], texts_lexemes (form_of h) ps [], text_notes p [], e ∙ text_splits (form_of h) p [] (texts_lexemes (form_of h) ps []), takes_text h p [] [] [] m.0)
 
-pub whole_led : (h : Form) → IsLed (AHeader h) (IsWhole h)
-whole_led h ws (ps, m, e) = inr (text_lexemes h header [], texts_lexemes h ps [], begin Header ∷ [], e ∙ text_splits h header [] (texts_lexemes h ps []), takes_header h [] [] [])
+pub whole_led : (h : Mode) → IsLed (AHeader h) (IsWhole h)
+whole_led h ws (ps, m, e) = inr (text_lexemes (form_of h) header [], texts_lexemes (form_of h) ps [], begin Header ∷ [], e ∙ text_splits (form_of h) header [] (texts_lexemes (form_of h) ps []), takes_header h [] [] [])
 
 -- ---- what the machine came through is a front
 
-wanting : (h : Form) (ws us : List Lexeme) (p : PartText) (m : State) (b : List Note) → run (APart h ∷ []) [] ws ≡ Some m → IsWaiting m.stack → MayStand h p → ws ++ us ≡ text_lexemes h p [] → IsFront h ws
+wanting : (h : Mode) (ws us : List Lexeme) (p : PartText) (m : State) (b : List Note) → run (APart h ∷ []) [] ws ≡ Some m → IsWaiting m.stack → MayStand (form_of h) p → ws ++ us ≡ text_lexemes (form_of h) p [] → IsFront h ws
 wanting h ws [] p m b e g s f =
     let same : Some m ≡ Some (state [] (text_notes p [])) = sym e ∙ ap (run (APart h ∷ []) []) (sym (append-nil ws) ∙ f) ∙ takes_text h p [] [] [] s in
     absurd (subst IsWaiting (ap stack_of same) g)
 wanting h ws (u ∷ us) p m b e g s f = (p, s, u, us, f)
 
-part-of : (h : Form) (ws : List Lexeme) → Language (APart h ∷ []) ws → (p : PartText) × MayStand h p × (ws ≡ text_lexemes h p [])
-part-of h ws (rest, (p, s, e), f) = (p, s, e ∙ ap (text_lexemes h p) f)
+part-of : (h : Mode) (ws : List Lexeme) → Language (APart h ∷ []) ws → (p : PartText) × MayStand (form_of h) p × (ws ≡ text_lexemes (form_of h) p [])
+part-of h ws (rest, (p, s, e), f) = (p, s, e ∙ ap (text_lexemes (form_of h) p) f)
 
-pub front : (h : Form) (ws : List Lexeme) (m : State) → run (APart h ∷ []) [] ws ≡ Some m → IsWaiting m.stack → IsFront h ws
+pub front : (h : Mode) (ws : List Lexeme) (m : State) → run (APart h ∷ []) [] ws ≡ Some m → IsWaiting m.stack → IsFront h ws
 front h ws m e g =
     let c = closing m.stack m.made in
     let l = part-of h (ws ++ c.0) (sound (APart h ∷ []) [] (ws ++ c.0) c.1 (ap finished (run_behind (APart h ∷ []) [] ws c.0 m e) ∙ c.2)) in
     wanting h ws c.0 l.0 m c.1 e g l.1 l.2
 
-header-wanting : (h : Form) (ws us : List Lexeme) (m : State) → run (AHeader h ∷ []) [] ws ≡ Some m → IsWaiting m.stack → ws ++ us ≡ text_lexemes h header [] → (w : Lexeme) × (more : List Lexeme) × (ws ++ w ∷ more ≡ text_lexemes h header [])
+header-wanting : (h : Mode) (ws us : List Lexeme) (m : State) → run (AHeader h ∷ []) [] ws ≡ Some m → IsWaiting m.stack → ws ++ us ≡ text_lexemes (form_of h) header [] → (w : Lexeme) × (more : List Lexeme) × (ws ++ w ∷ more ≡ text_lexemes (form_of h) header [])
 header-wanting h ws [] m e g f =
     let same : Some m ≡ Some (state [] (begin Header ∷ [])) = sym e ∙ ap (run (AHeader h ∷ []) []) (sym (append-nil ws) ∙ f) ∙ takes_header h [] [] [] in
     absurd (subst IsWaiting (ap stack_of same) g)
 header-wanting h ws (u ∷ us) m e g f = (u, us, f)
 
-pub header_front : (h : Form) (ws : List Lexeme) (m : State) → run (AHeader h ∷ []) [] ws ≡ Some m → IsWaiting m.stack → (w : Lexeme) × (more : List Lexeme) × (ws ++ w ∷ more ≡ text_lexemes h header [])
+pub header_front : (h : Mode) (ws : List Lexeme) (m : State) → run (AHeader h ∷ []) [] ws ≡ Some m → IsWaiting m.stack → (w : Lexeme) × (more : List Lexeme) × (ws ++ w ∷ more ≡ text_lexemes (form_of h) header [])
 header_front h ws m e g =
     let c = closing m.stack m.made in
     let l = sound (AHeader h ∷ []) [] (ws ++ c.0) c.1 (ap finished (run_behind (AHeader h ∷ []) [] ws c.0 m e) ∙ c.2) in
-    header-wanting h ws c.0 m e g (l.1 ∙ ap (text_lexemes h header) l.2)
+    header-wanting h ws c.0 m e g (l.1 ∙ ap (text_lexemes (form_of h) header) l.2)

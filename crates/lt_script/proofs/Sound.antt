@@ -1,4 +1,5 @@
 -- What the machine takes to the end is written by the grammar, and what is expected can be met.
+use Rattle.lt_script.specs.Modes.{form_of}
 use Rattle.std.proofs.Common.{◌≡◌, ℕ, ◌∙◌, ap, ap₂, sym, refl, subst, Bool, true, false, List, [], ◌∷◌, ◌++◌, Option, Some, None, append_assoc, append-nil}
 use Rattle.std.specs.Prelude.{◌==◌, if◌then◌else◌, map, codes, bytes_eq}
 use Rattle.std.specs.List.{list_all}
@@ -7,12 +8,12 @@ use Rattle.std.proofs.lemmas.Slice.Eq.{bytes_eq-Decides}
 use Rattle.lt_texts.specs.declared.lexical.TokenKind.TheVariants as kinds
 use Rattle.lt_definitions.specs.Types.{Chars, TypeTree, TypeTrees, type_variable, type_constructor, no_types, type_and, row}
 use Rattle.lt_texts.specs.Lexemes.{Lexeme, a_name, a_variable, a_number, a_sign}
-use Rattle.lt_texts.specs.Forms.{Form}
-use Rattle.lt_grammar.specs.declared.words.Mode.TheVariants.{Plain, Theory}
+use Rattle.lt_script.specs.declared.mode.Mode.{Mode}
+use Rattle.lt_script.specs.declared.mode.Mode.TheVariants.{Plain, Theory}
 use Rattle.lt_grammar.specs.declared.words.Fixed.{Fixed}
 use Rattle.lt_grammar.specs.declared.words.Fixed.TheVariants as signs
 use Rattle.lt_grammar.specs.declared.words.Part.{Part}
-use Rattle.lt_grammar.specs.declared.words.Part.TheVariants.{Label, Number, Variable, Parameters, AType, ATerm, Fixed as Exactly}
+use Rattle.lt_grammar.specs.declared.words.Part.TheVariants.{Label, Number, Variable, Parameters, AType, AStatement, ATerm, Fixed as Exactly}
 use Rattle.lt_grammar.specs.declared.words.RuleWord.{RuleWord}
 use Rattle.lt_grammar.specs.declared.words.ItemWord.{ItemWord}
 use Rattle.lt_grammar.specs.declared.words.CommandWord.{CommandWord}
@@ -51,8 +52,8 @@ Spells (APartOf p) ws rest = (a : Text p) × (ws ≡ part_lexemes p a rest)
 Spells One ws rest = ws ≡ number 1 ∷ rest
 Spells Lines ws rest = (lines : List LineText) × (ws ≡ lines_lexemes lines (a_sign kinds.CloseBrace ∷ rest))
 Spells (EndLine r) ws rest = ws ≡ a_sign kinds.Semicolon ∷ rest
-Spells (APart h) ws rest = (p : PartText) × MayStand h p × (ws ≡ text_lexemes h p rest)
-Spells (AHeader h) ws rest = ws ≡ text_lexemes h header rest
+Spells (APart h) ws rest = (p : PartText) × MayStand (form_of h) p × (ws ≡ text_lexemes (form_of h) p rest)
+Spells (AHeader h) ws rest = ws ≡ text_lexemes (form_of h) header rest
 
 abbrev pub Language : List Symbol → List Lexeme → Type 0
 Language [] ws = ws ≡ []
@@ -179,11 +180,20 @@ back-part-type _ s us m e l = absurd (cc e)
 whole-term : (s : List Symbol) (ws : List Lexeme) → Language (Term ∷ KeepTerm ∷ s) ws → Language (APartOf ATerm ∷ s) ws
 whole-term s ws (r, (t, h), (r', h', l)) = (r', (t, h ∙ ap (term_lexemes t) h'), l)
 
+whole-statement : (s : List Symbol) (ws : List Lexeme) → Language (Term ∷ KeepTerm ∷ s) ws → Language (APartOf AStatement ∷ s) ws
+whole-statement s ws (r, (t, h), (r', h', l)) = (r', (t, h ∙ ap (term_lexemes t) h'), l)
+
 back-part-term : (w : Lexeme) → Back (APartOf ATerm) w (step_part_of ATerm w)
 back-part-term (a_name c) s us m e l = whole-term s _ (back-term (a_name c) (KeepTerm ∷ s) us _ refl l)
 back-part-term (a_sign kinds.Percent) s us m e l = whole-term s _ (back-term (a_sign kinds.Percent) (KeepTerm ∷ s) us _ refl l)
 back-part-term (a_sign kinds.Open) s us m e l = whole-term s _ (back-term (a_sign kinds.Open) (KeepTerm ∷ s) us _ refl l)
 back-part-term _ s us m e l = absurd (cc e)
+
+back-part-statement : (w : Lexeme) → Back (APartOf AStatement) w (step_part_of AStatement w)
+back-part-statement (a_name c) s us m e l = whole-statement s _ (back-term (a_name c) (KeepTerm ∷ s) us _ refl l)
+back-part-statement (a_sign kinds.Percent) s us m e l = whole-statement s _ (back-term (a_sign kinds.Percent) (KeepTerm ∷ s) us _ refl l)
+back-part-statement (a_sign kinds.Open) s us m e l = whole-statement s _ (back-term (a_sign kinds.Open) (KeepTerm ∷ s) us _ refl l)
+back-part-statement _ s us m e l = absurd (cc e)
 
 the-word : (c v : Chars) → bytes_eq c v ≡ true → a_name c ≡ a_name v
 the-word c v q = ap a_name ((bytes_eq-Decides c v).0 q)
@@ -220,6 +230,7 @@ back-part-of Number w = back-number w
 back-part-of Variable w = back-variable w
 back-part-of Parameters w = back-parameters w
 back-part-of AType w = back-part-type w
+back-part-of AStatement w = back-part-statement w
 back-part-of ATerm w = back-part-term w
 back-part-of (Exactly k) w = fixed-by k w (is_fixed k w) refl
 
@@ -270,79 +281,45 @@ back-end-line r _ s us m e l = absurd (cc e)
 ends : (s : List Symbol) (ws : List Lexeme) → Language (semicolon ∷ s) ws → (rest : List Lexeme) × (ws ≡ a_sign kinds.Semicolon ∷ rest) × Language s rest
 ends s ws (r, (u, h), l) = (r, h, l)
 
-one-header : (h : Form) (c : Chars) (s : List Symbol) (us : List Lexeme) → c ≡ head_word h Header → Language (expected Header ++ s) us → (rest : List Lexeme) × (a_name c ∷ us ≡ text_lexemes h header rest) × Language s rest
+one-header : (h : Mode) (c : Chars) (s : List Symbol) (us : List Lexeme) → c ≡ head_word (form_of h) Header → Language (expected Header ++ s) us → (rest : List Lexeme) × (a_name c ∷ us ≡ text_lexemes (form_of h) header rest) × Language s rest
 one-header h c s us same (r, k, l) =
     let q = ends s r l in
-    (q.0, begun c (head_word h Header) us _ same (k ∙ ap (λ (x : List Lexeme). number 1 ∷ x) q.1), q.2)
+    (q.0, begun c (head_word (form_of h) Header) us _ same (k ∙ ap (λ (x : List Lexeme). number 1 ∷ x) q.1), q.2)
 
-one-part : (h : Form) (k : Head) (c : Chars) (s : List Symbol) (us : List Lexeme) → ((w : CommandWord) (ts : Texts (command_row w).parts) → k ≡ Command w → MayStand h (command w ts)) → c ≡ head_word h k
+one-part : (h : Mode) (k : Head) (c : Chars) (s : List Symbol) (us : List Lexeme) → IsHead (form_of h) k → c ≡ head_word (form_of h) k
     → Language (expected k ++ s) us → Language (APart h ∷ s) (a_name c ∷ us)
-one-part h Header c s us m same l = let q = one-header h c s us same l in (q.0, (header, stands h, q.1), q.2)
-  where
-    stands : (h : Form) → MayStand h header
-    stands Plain = tt
-    stands Theory = tt
+one-part h Header c s us m same l = let q = one-header h c s us same l in (q.0, (header, tt, q.1), q.2)
 one-part h Lemma c s us m same l =
     let p = row-spelt lemma_parts (APartOf (Exactly signs.OpenBrace) ∷ Lines ∷ semicolon ∷ []) s us l in
     more p.0 p.1 p.2 p.3
   where
-    stands : (h : Form) (n : Chars) (t : TermText) (lines : List LineText) → MayStand h (lemma n t lines)
-    stands Plain n t lines = tt
-    stands Theory n t lines = tt
-
     more : (ts : Texts lemma_parts) (rest : List Lexeme) → us ≡ parts_lexemes lemma_parts ts rest → Language (APartOf (Exactly signs.OpenBrace) ∷ Lines ∷ semicolon ∷ s) rest → Language (APart h ∷ s) (a_name c ∷ us)
     more (n, (u, (t, u'))) rest e (r, (v, i), (r', (lines, j), g)) =
         let q = ends s r' g in
-        (q.0, (lemma n t lines, stands h n t lines, begun c (codes "lemma") us _ same (e ∙ ap (parts_lexemes lemma_parts (n, (tt, (t, tt)))) (i ∙ ap (λ (x : List Lexeme). a_sign kinds.OpenBrace ∷ x) (j ∙ ap (λ (x : List Lexeme). lines_lexemes lines (a_sign kinds.CloseBrace ∷ x)) q.1)))), q.2)
+        (q.0, (lemma n t lines, m, begun c (codes "lemma") us _ same (e ∙ ap (parts_lexemes lemma_parts (n, (tt, (t, tt)))) (i ∙ ap (λ (x : List Lexeme). a_sign kinds.OpenBrace ∷ x) (j ∙ ap (λ (x : List Lexeme). lines_lexemes lines (a_sign kinds.CloseBrace ∷ x)) q.1)))), q.2)
 one-part h (Item w) c s us m same l =
     let p = row-spelt (item_row w).parts (semicolon ∷ []) s us l in
     let q = ends s p.1 p.3 in
-    (q.0, (item w p.0, stands h w p.0, begun c (item_row w).word us _ same (p.2 ∙ ap (parts_lexemes (item_row w).parts p.0) q.1)), q.2)
-  where
-    stands : (h : Form) (w : ItemWord) (ts : Texts (item_row w).parts) → MayStand h (item w ts)
-    stands Plain w ts = tt
-    stands Theory w ts = tt
+    (q.0, (item w p.0, m, begun c (item_row w).word us _ same (p.2 ∙ ap (parts_lexemes (item_row w).parts p.0) q.1)), q.2)
 one-part h (Command w) c s us m same l =
     let p = row-spelt (command_row w).parts (semicolon ∷ []) s us l in
     let q = ends s p.1 p.3 in
-    (q.0, (command w p.0, m w p.0 refl, begun c (command_row w).word us _ same (p.2 ∙ ap (parts_lexemes (command_row w).parts p.0) q.1)), q.2)
+    (q.0, (command w p.0, m, begun c (command_row w).word us _ same (p.2 ∙ ap (parts_lexemes (command_row w).parts p.0) q.1)), q.2)
 
--- in a plain text no further command is found
-test-by : {A : Type 0} (test : A → Bool) (a b : A) (y : Bool) (o : Option A) → test a ≡ true → (o ≡ Some b → test b ≡ true) → (if y then Some a else o) ≡ Some b → test b ≡ true
-test-by test a b true o h k e = let one : a ≡ b = cc e in ap test (sym one) ∙ h
-test-by test a b false o h k e = k e
-
-found-test : {A : Type 0} (test : A → Bool) (f : A → Chars) (among : List A) (c : Chars) (b : A) → list_all test among ≡ true → find_word f among c ≡ Some b → test b ≡ true
-found-test test f [] c b h e = absurd (cc e)
-found-test test f (a ∷ later) c b h e =
-    let both = and_parts (test a) (list_all test later) h in
-    test-by test a b (bytes_eq c (f a)) (find_word f later c) both.0 (found-test test f later c b both.1) e
-
-abbrev is_plain : Head → Bool
-is_plain (Command w) = false
-is_plain _ = true
-
-may-stand : (h : Form) (c : Chars) (k : Head) → head_of h c ≡ Some k → (w : CommandWord) (ts : Texts (command_row w).parts) → k ≡ Command w → MayStand h (command w ts)
-may-stand Theory c k e w ts q = tt
-may-stand Plain c k e w ts q =
-    let plain : is_plain k ≡ true = found-test is_plain (head_word Plain) (heads Plain) c k refl e in
-    let clash : false ≡ true = ap is_plain (sym q) ∙ plain in
-    absurd (cc clash)
-
-parted : (h : Form) (c : Chars) (o : Option Head) → head_of h c ≡ o → Back (APart h) (a_name c) (part_move o)
+parted : (h : Mode) (c : Chars) (o : Option Head) → head_of (form_of h) c ≡ o → Back (APart h) (a_name c) (part_move o)
 parted h c None q s us m e l = absurd (cc e)
-parted h c (Some k) q s us m e l = one-part h k c s us (may-stand h c k q) (found_has (head_word h) (heads h) c k q) l
+parted h c (Some k) q s us m e l = let f = found_head (form_of h) c k q in one-part h k c s us f.1 f.0 l
 
-back-part : (h : Form) (w : Lexeme) → Back (APart h) w (step_part h w)
-back-part h (a_name c) s us m e l = parted h c (head_of h c) refl s us m e l
+back-part : (h : Mode) (w : Lexeme) → Back (APart h) w (step_part h w)
+back-part h (a_name c) s us m e l = parted h c (head_of (form_of h) c) refl s us m e l
 back-part h _ s us m e l = absurd (cc e)
 
-headed : (h : Form) (c : Chars) (o : Option Head) → head_of h c ≡ o → Back (AHeader h) (a_name c) (header_move o)
-headed h c (Some Header) q s us m e l = let p = one-header h c s us (found_has (head_word h) (heads h) c Header q) l in (p.0, p.1, p.2)
+headed : (h : Mode) (c : Chars) (o : Option Head) → head_of (form_of h) c ≡ o → Back (AHeader h) (a_name c) (header_move o)
+headed h c (Some Header) q s us m e l = let p = one-header h c s us (found_head (form_of h) c Header q).0 l in (p.0, p.1, p.2)
 headed h c _ q s us m e l = absurd (cc e)
 
-back-header : (h : Form) (w : Lexeme) → Back (AHeader h) w (step_header h w)
-back-header h (a_name c) s us m e l = headed h c (head_of h c) refl s us m e l
+back-header : (h : Mode) (w : Lexeme) → Back (AHeader h) w (step_header h w)
+back-header h (a_name c) s us m e l = headed h c (head_of (form_of h) c) refl s us m e l
 back-header h _ s us m e l = absurd (cc e)
 
 -- ---- any symbol, any stack

@@ -1,15 +1,16 @@
 -- The machine takes each writing whole.
+use Rattle.lt_script.specs.Modes.{form_of}
 use Rattle.std.proofs.Common.{◌≡◌, ◌∙◌, ap, ap₂, refl, List, [], ◌∷◌, ◌++◌, Option, Some, None, append_assoc, append-nil}
 use Rattle.std.specs.Prelude.{map}
 use Rattle.lt_texts.specs.declared.lexical.TokenKind.TheVariants as kinds
 use Rattle.lt_definitions.specs.Types.{Chars, TypeTree, TypeTrees, type_variable, type_constructor, no_types, type_and, row}
 use Rattle.lt_texts.specs.Lexemes.{Lexeme, a_name, a_sign}
-use Rattle.lt_texts.specs.Forms.{Form}
-use Rattle.lt_grammar.specs.declared.words.Mode.TheVariants.{Plain, Theory}
+use Rattle.lt_script.specs.declared.mode.Mode.{Mode}
+use Rattle.lt_script.specs.declared.mode.Mode.TheVariants.{Plain, Theory}
 use Rattle.lt_grammar.specs.declared.words.Fixed.{Fixed}
 use Rattle.lt_grammar.specs.declared.words.Fixed.TheVariants as signs
 use Rattle.lt_grammar.specs.declared.words.Part.{Part}
-use Rattle.lt_grammar.specs.declared.words.Part.TheVariants.{Label, Number, Variable, Parameters, AType, ATerm, Fixed as Exactly}
+use Rattle.lt_grammar.specs.declared.words.Part.TheVariants.{Label, Number, Variable, Parameters, AType, AStatement, ATerm, Fixed as Exactly}
 use Rattle.lt_grammar.specs.declared.words.RuleWord.{RuleWord}
 use Rattle.lt_grammar.specs.declared.words.Head.{Head}
 use Rattle.lt_grammar.specs.declared.words.Head.TheVariants.{Header, Lemma, Item, Command}
@@ -125,11 +126,19 @@ body (lambda x ty t) s b rest = refl
 body (applied f a more) s b rest = refl
 
 part-term : (t : TermText) (s : List Symbol) (b : List Note) (rest : List Lexeme) → run (APartOf ATerm ∷ s) b (term_lexemes t rest) ≡ run (Term ∷ KeepTerm ∷ s) b (term_lexemes t rest)
+
 part-term (word c ts) s b rest = refl
 part-term (bound x) s b rest = refl
 part-term (free x ty) s b rest = refl
 part-term (lambda x ty t) s b rest = refl
 part-term (applied f a more) s b rest = refl
+
+part-statement : (t : TermText) (s : List Symbol) (b : List Note) (rest : List Lexeme) → run (APartOf AStatement ∷ s) b (term_lexemes t rest) ≡ run (Term ∷ KeepTerm ∷ s) b (term_lexemes t rest)
+part-statement (word c ts) s b rest = refl
+part-statement (bound x) s b rest = refl
+part-statement (free x ty) s b rest = refl
+part-statement (lambda x ty t) s b rest = refl
+part-statement (applied f a more) s b rest = refl
 
 mutual
   pub takes_term : (t : TermText) (s : List Symbol) (b : List Note) (rest : List Lexeme) → IsClear rest → run (Term ∷ s) b (term_lexemes t rest) ≡ run s (term_notes t b) rest
@@ -176,6 +185,7 @@ takes-part-of Number a s b rest c = refl
 takes-part-of Variable a s b rest c = refl
 takes-part-of Parameters a s b rest c = takes-parameters a s b rest
 takes-part-of AType a s b rest c = part-type a s b rest ∙ takes_type a (KeepType ∷ s) b rest ∙ kept-type s (type_notes a b) rest c
+takes-part-of AStatement a s b rest c = part-statement a s b rest ∙ takes_term a (KeepTerm ∷ s) b rest c ∙ kept-term s (term_notes a b) rest c
 takes-part-of ATerm a s b rest c = part-term a s b rest ∙ takes_term a (KeepTerm ∷ s) b rest c ∙ kept-term s (term_notes a b) rest c
 takes-part-of (Exactly k) a s b rest c = takes_fixed k s b rest
 
@@ -213,35 +223,26 @@ takes_lines (line w ts ∷ lines) s b rest =
 
 -- ---- parts of a text
 
-begun-part : (h : Form) (k : Head) (s : List Symbol) (b : List Note) (ws : List Lexeme) → IsHead h k
-    → run (APart h ∷ s) b (a_name (head_word h k) ∷ ws) ≡ run (expected k ++ s) (begin k ∷ b) ws
+begun-part : (h : Mode) (k : Head) (s : List Symbol) (b : List Note) (ws : List Lexeme) → IsHead (form_of h) k
+    → run (APart h ∷ s) b (a_name (head_word (form_of h) k) ∷ ws) ≡ run (expected k ++ s) (begin k ∷ b) ws
 begun-part h k s b ws m =
-    ap (λ (o : Option Head). onward (or_pass (under s [] (part_move o)) None (step_on s (a_name (head_word h k)))) (λ m. run m.pushed (m.made ++ b) ws)) (head_found h k m)
+    ap (λ (o : Option Head). onward (or_pass (under s [] (part_move o)) None (step_on s (a_name (head_word (form_of h) k)))) (λ m. run m.pushed (m.made ++ b) ws)) (head_found (form_of h) k m)
 
-head-stands : (h : Form) → IsHead h Header
-head-stands Plain = tt
-head-stands Theory = tt
-
-lemma-stands : (h : Form) → IsHead h Lemma
-lemma-stands Plain = tt
-lemma-stands Theory = tt
-
-pub takes_text : (h : Form) (p : PartText) (s : List Symbol) (b : List Note) (rest : List Lexeme) → MayStand h p
-    → run (APart h ∷ s) b (text_lexemes h p rest) ≡ run s (text_notes p b) rest
-takes_text h header s b rest m = begun-part h Header s b (number 1 ∷ a_sign kinds.Semicolon ∷ rest) (head-stands h)
-takes_text Plain (item w ts) s b rest m =
-    begun-part Plain (Item w) s b _ tt ∙ row-behind (item_row w).parts ts (semicolon ∷ []) s (begin (Item w) ∷ b) (a_sign kinds.Semicolon ∷ rest) tt
-takes_text Theory (item w ts) s b rest m =
-    begun-part Theory (Item w) s b _ tt ∙ row-behind (item_row w).parts ts (semicolon ∷ []) s (begin (Item w) ∷ b) (a_sign kinds.Semicolon ∷ rest) tt
+pub takes_text : (h : Mode) (p : PartText) (s : List Symbol) (b : List Note) (rest : List Lexeme) → MayStand (form_of h) p
+    → run (APart h ∷ s) b (text_lexemes (form_of h) p rest) ≡ run s (text_notes p b) rest
+takes_text h header s b rest m = begun-part h Header s b (number 1 ∷ a_sign kinds.Semicolon ∷ rest) tt
+takes_text h (item w ts) s b rest m =
+    begun-part h (Item w) s b (parts_lexemes (item_row w).parts ts (a_sign kinds.Semicolon ∷ rest)) m
+    ∙ row-behind (item_row w).parts ts (semicolon ∷ []) s (begin (Item w) ∷ b) (a_sign kinds.Semicolon ∷ rest) tt
 takes_text h (lemma l p lines) s b rest m =
-    begun-part h Lemma s b (parts_lexemes lemma_parts (l, (tt, (p, tt))) (a_sign kinds.OpenBrace ∷ lines_lexemes lines (a_sign kinds.CloseBrace ∷ a_sign kinds.Semicolon ∷ rest))) (lemma-stands h)
+    begun-part h Lemma s b (parts_lexemes lemma_parts (l, (tt, (p, tt))) (a_sign kinds.OpenBrace ∷ lines_lexemes lines (a_sign kinds.CloseBrace ∷ a_sign kinds.Semicolon ∷ rest))) m
     ∙ row-behind lemma_parts (l, (tt, (p, tt))) (APartOf (Exactly signs.OpenBrace) ∷ Lines ∷ semicolon ∷ []) s (begin Lemma ∷ b)
     (a_sign kinds.OpenBrace ∷ lines_lexemes lines (a_sign kinds.CloseBrace ∷ a_sign kinds.Semicolon ∷ rest)) tt
     ∙ takes_lines lines (semicolon ∷ s) (parts_notes lemma_parts (l, (tt, (p, tt))) (begin Lemma ∷ b)) (a_sign kinds.Semicolon ∷ rest)
-takes_text Plain (command w ts) s b rest m = absurd m
-takes_text Theory (command w ts) s b rest m =
-    begun-part Theory (Command w) s b _ tt ∙ row-behind (command_row w).parts ts (semicolon ∷ []) s (begin (Command w) ∷ b) (a_sign kinds.Semicolon ∷ rest) tt
+takes_text h (command w ts) s b rest m =
+    begun-part h (Command w) s b (parts_lexemes (command_row w).parts ts (a_sign kinds.Semicolon ∷ rest)) m
+    ∙ row-behind (command_row w).parts ts (semicolon ∷ []) s (begin (Command w) ∷ b) (a_sign kinds.Semicolon ∷ rest) tt
 
-pub takes_header : (h : Form) (s : List Symbol) (b : List Note) (rest : List Lexeme) → run (AHeader h ∷ s) b (text_lexemes h header rest) ≡ run s (begin Header ∷ b) rest
+pub takes_header : (h : Mode) (s : List Symbol) (b : List Note) (rest : List Lexeme) → run (AHeader h ∷ s) b (text_lexemes (form_of h) header rest) ≡ run s (begin Header ∷ b) rest
 takes_header Plain s b rest = refl
 takes_header Theory s b rest = refl

@@ -1,11 +1,12 @@
 -- What the reader's answers say of the whole text.
+use Rattle.lt_script.specs.Modes.{form_of}
 use Rattle.std.proofs.Common.{◌≡◌, ℕ, ◌∙◌, ap, sym, refl, subst, List, [], ◌∷◌, ◌++◌, append_assoc, append-nil}
 use Rattle.lt_texts.specs.declared.lexical.Lexed.{Lexed}
 use Rattle.lt_texts.specs.declared.lexical.Lexed.TheVariants.{Token as One, End, BadByte as NoText, BadChar as NoToken}
 use Rattle.lt_texts.specs.Texts.{Left, left_of, lexed, after, spelling}
 use Rattle.lt_texts.specs.Lexemes.{Lexeme, lexeme, Spans}
 use Rattle.lt_texts.proofs.OneReading.{one_next, no_next}
-use Rattle.lt_texts.specs.Forms.{Form}
+use Rattle.lt_script.specs.declared.mode.Mode.{Mode}
 use Rattle.lt_texts.specs.Commands.{Command}
 use Rattle.lt_grammar.specs.RowTexts.{PartText, header, item, lemma, command, text_lexemes, texts_lexemes, MayStandAll, commands_of, HasCommands}
 use Rattle.lt_grammar.proofs.RowReading.{header_stands}
@@ -14,15 +15,15 @@ use Rattle.lt_script.specs.declared.read_error.ReadError.TheVariants.{BadHeader,
 use Rattle.lt_script.specs.Reading.{IsWhole, IsRest, called, IsWrong, FailsAt, HeaderFailsAt, Fails, HeaderFails, AreHeaders, AtEnd, NextCommand, Begins, HasNoCommands, IsOfText}
 use Rattle.lt_script.proofs.Parts.{spans_texts, texts_split, strip, stand_all}
 
-pub header_begins : (h : Form) (text : List ℕ) (s : Left) → Spans (left_of text) (text_lexemes h header []) s → Begins h text [] s
+pub header_begins : (h : Mode) (text : List ℕ) (s : Left) → Spans (left_of text) (text_lexemes (form_of h) header []) s → Begins h text [] s
 header_begins h text s e = ([], tt, e, refl)
 
-module _ (h : Form) where
-  texts-append : (ps qs : List PartText) (x : List Lexeme) → texts_lexemes h ps (texts_lexemes h qs x) ≡ texts_lexemes h (ps ++ qs) x
+module _ (h : Mode) where
+  texts-append : (ps qs : List PartText) (x : List Lexeme) → texts_lexemes (form_of h) ps (texts_lexemes (form_of h) qs x) ≡ texts_lexemes (form_of h) (ps ++ qs) x
   texts-append [] qs x = refl
-  texts-append (p ∷ ps) qs x = ap (text_lexemes h p) (texts-append ps qs x)
+  texts-append (p ∷ ps) qs x = ap (text_lexemes (form_of h) p) (texts-append ps qs x)
 
-  stand-append : (ps qs : List PartText) → MayStandAll h ps → MayStandAll h qs → MayStandAll h (ps ++ qs)
+  stand-append : (ps qs : List PartText) → MayStandAll (form_of h) ps → MayStandAll (form_of h) qs → MayStandAll (form_of h) (ps ++ qs)
   stand-append [] qs a b = b
   stand-append (p ∷ ps) qs a b = (a.0, stand-append ps qs a.1 b)
 
@@ -41,11 +42,11 @@ module _ (h : Form) where
   no-commands (command w ts ∷ ps) (e, a) = absurd (cc e)
 
   -- further parts behind a front of the text
-  joined : (text : List ℕ) (cs more : List Command) (s s' : Left) (qs : List PartText) → Begins h text cs s → MayStandAll h qs → Spans s (texts_lexemes h qs []) s' → more ≡ commands_of qs → Begins h text (cs ++ more) s'
+  joined : (text : List ℕ) (cs more : List Command) (s s' : Left) (qs : List PartText) → Begins h text cs s → MayStandAll (form_of h) qs → Spans s (texts_lexemes (form_of h) qs []) s' → more ≡ commands_of qs → Begins h text (cs ++ more) s'
   joined text cs more s s' qs (ps, a, spans, e) b f g = (
     ps ++ qs,
     stand-append ps qs a b,
-    subst (λ (z : List Lexeme). Spans (left_of text) z s') (texts-append (header ∷ ps) qs []) (spans_texts h (left_of text) s s' (header ∷ ps) (texts_lexemes h qs []) spans f),
+    subst (λ (z : List Lexeme). Spans (left_of text) z s') (texts-append (header ∷ ps) qs []) (spans_texts h (left_of text) s s' (header ∷ ps) (texts_lexemes (form_of h) qs []) spans f),
     ap (λ (z : List Command). z ++ more) e ∙ ap (λ (z : List Command). commands_of ps ++ z) g ∙ sym (commands-append ps qs),
   )
 
@@ -58,7 +59,7 @@ module _ (h : Form) where
   pub end_has_commands : (text : List ℕ) (cs : List Command) (s : Left) → Begins h text cs s → AtEnd h s → HasCommands h text cs
   end_has_commands text cs s b (qs, s', a, spans, e) =
       let all = joined text cs [] s s' qs b (stand_all h qs a) spans (sym (no-commands qs a)) in
-      (texts_lexemes h (header ∷ all.0) [], (s', all.2, e), (all.0, all.1, refl, sym (append-nil cs) ∙ all.3))
+      (texts_lexemes (form_of h) (header ∷ all.0) [], (s', all.2, e), (all.0, all.1, refl, sym (append-nil cs) ∙ all.3))
 
   -- ---- what can't go on
 
@@ -87,8 +88,8 @@ module _ (h : Form) where
 
   goes-wrong : (s z : Left) (vs : List Lexeme) (e : ReadError) → FailsAt h s e → Spans s vs z → lexed z ≡ End → IsRest h vs → ⊥
   goes-wrong s z vs e (ps, a, ws, i, at, spans, w) f g r =
-      let k = front-of s at z (texts_lexemes h ps ws) vs spans f g in
-      none-behind (IsRest h) (called h ws) at z (texts_lexemes h ps ws) k.0 (lexed at) e refl k.2 g w (subst (IsRest h) k.1 r)
+      let k = front-of s at z (texts_lexemes (form_of h) ps ws) vs spans f g in
+      none-behind (IsRest h) (called h ws) at z (texts_lexemes (form_of h) ps ws) k.0 (lexed at) e refl k.2 g w (subst (IsRest h) k.1 r)
 
   header-wrong : (s z : Left) (vs : List Lexeme) (e : ReadError) → HeaderFailsAt h s e → Spans s vs z → lexed z ≡ End → IsWhole h vs → ⊥
   header-wrong s z vs e (ws, w, more, i, at, spans, wr) f g r =
@@ -116,6 +117,6 @@ module _ (h : Form) where
 
   pub fault_has_no_commands : (text : List ℕ) (cs : List Command) (s : Left) (e : ReadError) → IsOfText e → Begins h text cs s → Fails h s e → HasNoCommands h text
   fault_has_no_commands text cs s e o (ps, b, front, _) f all (vs, (z, spans, g), (qs, a, k, _)) =
-      let r = front-of (left_of text) s z (texts_lexemes h (header ∷ ps) []) vs front spans g in
-      let rest : IsRest h (texts_lexemes h (header ∷ ps) r.0) = (header ∷ qs, (header_stands h, a), texts_split h (header ∷ ps) r.0 ∙ sym r.1 ∙ k) in
+      let r = front-of (left_of text) s z (texts_lexemes (form_of h) (header ∷ ps) []) vs front spans g in
+      let rest : IsRest h (texts_lexemes (form_of h) (header ∷ ps) r.0) = (header ∷ qs, (header_stands h, a), texts_split h (header ∷ ps) r.0 ∙ sym r.1 ∙ k) in
       fault s z r.0 e o f r.2 g (strip h (header ∷ ps) r.0 (header_stands h, b) rest)

@@ -1,12 +1,13 @@
 -- What a lexeme makes of a stack of expectations, and what is noted on the way, both the newest first.
+use Rattle.lt_script.specs.Modes.{form_of}
 use Rattle.std.specs.Prelude.{◌≡◌, ◌==◌, List, [], ◌∷◌, ◌++◌, map, Option, Some, None, Bool, true, false, if◌then◌else◌, codes, bytes_eq}
 use Rattle.lt_texts.specs.declared.lexical.TokenKind.TheVariants as kinds
 use Rattle.lt_texts.specs.Lexemes.{Lexeme, a_name, a_variable, a_number, a_sign}
-use Rattle.lt_texts.specs.Forms.{Form}
+use Rattle.lt_script.specs.declared.mode.Mode.{Mode}
 use Rattle.lt_grammar.specs.declared.words.Fixed.{Fixed}
 use Rattle.lt_grammar.specs.declared.words.Fixed.TheVariants as signs
 use Rattle.lt_grammar.specs.declared.words.Part.{Part}
-use Rattle.lt_grammar.specs.declared.words.Part.TheVariants.{Label, Number, Variable, Parameters, AType, ATerm, Fixed as Exactly}
+use Rattle.lt_grammar.specs.declared.words.Part.TheVariants.{Label, Number, Variable, Parameters, AType, AStatement, ATerm, Fixed as Exactly}
 use Rattle.lt_grammar.specs.declared.words.RuleWord.{RuleWord}
 use Rattle.lt_grammar.specs.declared.words.Head.{Head}
 use Rattle.lt_grammar.specs.declared.words.Head.TheVariants.{Header, Lemma, Item, Command}
@@ -123,6 +124,7 @@ step_part_of Number w = step_number w
 step_part_of Variable w = step_variable w
 step_part_of Parameters w = step_parameters w
 step_part_of AType w = under (KeepType ∷ []) [] (step_type w)
+step_part_of AStatement w = under (KeepTerm ∷ []) [] (step_term w)
 step_part_of ATerm w = under (KeepTerm ∷ []) [] (step_term w)
 step_part_of (Exactly k) w = if is_fixed k w then go [] [] else None
 
@@ -157,16 +159,16 @@ abbrev pub part_move : Option Head → Option Move
 part_move None = None
 part_move (Some k) = go (expected k) (begin k ∷ [])
 
-abbrev pub step_part : Form → Lexeme → Option Move
-step_part h (a_name w) = part_move (head_of h w)
+abbrev pub step_part : Mode → Lexeme → Option Move
+step_part h (a_name w) = part_move (head_of (form_of h) w)
 step_part h _ = None
 
 abbrev pub header_move : Option Head → Option Move
 header_move (Some Header) = part_move (Some Header)
 header_move _ = None
 
-abbrev pub step_header : Form → Lexeme → Option Move
-step_header h (a_name w) = header_move (head_of h w)
+abbrev pub step_header : Mode → Lexeme → Option Move
+step_header h (a_name w) = header_move (head_of (form_of h) w)
 step_header h _ = None
 
 -- what a lexeme makes of one symbol

@@ -1,4 +1,5 @@
 -- What the machine makes of a text from a stack on, and where it stops.
+use Rattle.lt_script.specs.Modes.{form_of}
 use Rattle.std.specs.Prelude.{◌≡◌, ℕ, List, [], ◌∷◌, ◌++◌, length, reverse, Some, None, Bool, true, false}
 use Rattle.lt_texts.specs.declared.lexical.Lexed.{Lexed}
 use Rattle.lt_texts.specs.declared.lexical.Lexed.TheVariants.{Token as One, End, BadByte as NoText, BadChar as NoToken}
@@ -6,7 +7,7 @@ use Rattle.lt_texts.specs.declared.lexical.Token.{Token}
 use Rattle.lt_texts.specs.Texts.{Left, lexed, after, spelling}
 use Rattle.lt_definitions.specs.Types.{Chars}
 use Rattle.lt_texts.specs.Lexemes.{Lexeme, a_name, lexeme, Spans}
-use Rattle.lt_texts.specs.Forms.{Form}
+use Rattle.lt_script.specs.declared.mode.Mode.{Mode}
 use Rattle.lt_grammar.specs.declared.words.Head.{Head}
 use Rattle.lt_grammar.specs.declared.words.Head.TheVariants.{Header}
 use Rattle.lt_grammar.specs.RowTexts.{PartText}
@@ -49,20 +50,20 @@ call_of Header = BadHeader
 call_of _ = Syntax
 
 -- what stands next where a part may begin: what begins it, with its place, something else, or no token
-abbrev pub SaysNext : Form → Left → Left → Next → Type 0
+abbrev pub SaysNext : Mode → Left → Left → Next → Type 0
 SaysNext h s s' Ends = lexed s ≡ End
-SaysNext h s s' (Begins k at) = (c : Chars) × (t : Token) × (lexed s ≡ One t) × (at ≡ t.from) × (a_name c ≡ lexeme t.kind (spelling s)) × (head_of h c ≡ Some k) × (s' ≡ after s)
+SaysNext h s s' (Begins k at) = (c : Chars) × (t : Token) × (lexed s ≡ One t) × (at ≡ t.from) × (a_name c ≡ lexeme t.kind (spelling s)) × (head_of (form_of h) c ≡ Some k) × (s' ≡ after s)
 SaysNext h s s' (Other at) = (t : Token) × (lexed s ≡ One t) × (at ≡ t.from) × (step_part h (lexeme t.kind (spelling s)) ≡ None)
 SaysNext h s s' (NoByte at) = lexed s ≡ NoText at
 SaysNext h s s' (NoChar at) = lexed s ≡ NoToken at
 
 -- a part that is no header, behind headers if there are any, with what is noted of it
-abbrev pub NextNotes : Form → Left → Head → List Note → Left → Type 0
+abbrev pub NextNotes : Mode → Left → Head → List Note → Left → Type 0
 NextNotes h s k made s' = (p : PartText) × NextText h s p s' × (made ≡ reverse (text_notes p [])) × (k ≡ head_of_text p)
 
 -- what a word at a place begins
-abbrev pub Heads : Form → Lexeme → ℕ → Next → Type 0
-Heads h w at (Begins k n) = (n ≡ at) × (c : Chars) × (w ≡ a_name c) × (head_of h c ≡ Some k)
+abbrev pub Heads : Mode → Lexeme → ℕ → Next → Type 0
+Heads h w at (Begins k n) = (n ≡ at) × (c : Chars) × (w ≡ a_name c) × (head_of (form_of h) c ≡ Some k)
 Heads h w at (Other n) = (n ≡ at) × (step_part h w ≡ None)
 Heads h w at _ = ⊥
 

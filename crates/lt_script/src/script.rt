@@ -1,4 +1,5 @@
 //! A text that is read a command at a time.
+ghost use Rattle.lt_script.specs.Modes.{form_of};
 ghost use Rattle.std.specs.Prelude.{◌≡◌, List, [], ◌∷◌, length, IfOk, IfErr, MatchOption};
 ghost use Rattle.lt_texts.specs.Lexemes.{Spans};
 ghost use Rattle.lt_texts.specs.Texts.{left_of};
@@ -13,7 +14,8 @@ ghost use Rattle.lt_script.specs.Stops.{NextNotes, Reads, IsStopped, call_of, is
 use crate::note::Note;
 use crate::read_error::ReadError;
 use crate::reading::{Next, next_head, read};
-use lt_grammar::words::{Head, Mode};
+use lt_grammar::words::{Head};
+use crate::mode::Mode;
 use lt_lex::Lexer;
 use std::alloc::Global;
 use std::marker::Model;
@@ -40,7 +42,7 @@ impl<'a> Model for Script<'a> {
 impl<'a> Script<'a> {
     /// The text behind its header, or the first place where it can't go on as the header of this mode. This takes time in the text's length.
     pub fn new(alloc: Global, text: &'a [u8], mode: Mode) -> Result<Script<'a>, ReadError>
-        ensures header { IfOk result (λ r. Spans (left_of text.now) (text_lexemes mode header []) r) }
+        ensures header { IfOk result (λ r. Spans (left_of text.now) (text_lexemes (form_of mode) header []) r) }
         ensures wrong { IfErr result (λ e. HeaderFails mode (left_of text.now) e) }
     {
         let mut lexer = Lexer::new(text);

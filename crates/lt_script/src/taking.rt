@@ -9,7 +9,8 @@ use crate::symbol::Symbol;
 use crate::table::{command_parts, head_of, is_word, item_parts, lemma_parts, rule_of, rule_parts};
 use crate::word::Word;
 use lt_texts::lexical::TokenKind;
-use lt_grammar::words::{Fixed, Head, Mode, Part, RuleWord};
+use lt_grammar::words::{Fixed, Head, Part, RuleWord};
+use crate::mode::Mode;
 use lt_types::Memory;
 
 /// Takes a word where the newest symbol is expected, and tells whether it was taken. What may be passed over is passed over first.
@@ -305,6 +306,7 @@ fn take_part_of(
         Part::Variable => Ok(take_variable(made, word)?),
         Part::Parameters => Ok(take_parameters(stack, made, word)?),
         Part::AType => Ok(take_whole_type(stack, made, word)?),
+        Part::AStatement => Ok(take_whole_term(stack, made, word)?),
         Part::ATerm => Ok(take_whole_term(stack, made, word)?),
         Part::Fixed(fixed) => Ok(is_fixed(fixed, &word)),
     }
