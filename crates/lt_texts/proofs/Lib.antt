@@ -5,4 +5,6 @@ pub mod TokenTexts
 pub mod GapLemmas
 pub mod NextTokens
 pub mod OneReading
+pub mod Readings
+pub mod ReadingOrder
 pub mod OneEnding

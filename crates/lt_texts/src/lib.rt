@@ -3,4 +3,6 @@
 
 pub mod lexical;
 pub mod plain_texts;
+pub mod reading;
+pub mod text_examples;
 pub mod walks;
