@@ -28,8 +28,8 @@ pub use lt_terms::{
     same_up_to_types, subst_free, term_instance,
 };
 pub use lt_types::{
-    Ids, List, Memory, Name, Names, TryCopy, Ty, TyBuilder, TyMap, TyNode, Tys, is_name,
-    match_type, tsub,
+    Ids, List, Memory, Name, Names, TryCopy, Ty, TyBuilder, TyMap, TyNode, Tys, are_clear, is_name,
+    long_names, longest, match_type, tsub, variables,
 };
 pub use outcome::Outcome;
 pub use property::Property;
