@@ -39,7 +39,9 @@ impl Lines {
         ensures ok { OnOk result (self.new.nodes ≡ self.old.nodes ++ node ∷ []) }
         ensures err { OnErr result (self.new.nodes ≡ self.old.nodes) }
         ensures lines { self.new.lines ≡ self.old.lines }
-        ensures rules { rules_of self.new.nodes self.new.lines ≡ rules_of self.old.nodes self.old.lines }
+        ensures rules {
+            rules_of self.new.nodes self.new.lines ≡ rules_of self.old.nodes self.old.lines
+        }
     {
         let place = self.nodes.len();
         self.nodes.push(alloc, node)?;

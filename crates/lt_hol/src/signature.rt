@@ -11,7 +11,8 @@ use lt_types::{Memory, Name, TryCopy, Ty};
 use std::alloc::Global;
 use std::marker::Model;
 
-/// The declared types with their arities, and the declared constants with their types, in order of declaration.
+/// The declared types with their arities, and the declared constants with their types, in order of
+/// declaration.
 ///
 /// A look-up by name takes constant time.
 #[derive(Debug, Drop)]

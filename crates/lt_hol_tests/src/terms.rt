@@ -47,8 +47,7 @@ fn applied(alloc: Global) -> Result<Term, Fail> {
 /// How many terms there are where a second one and a node follow a first.
 fn count(alloc: Global, t: &Term) -> Result<usize, Fail> {
     let builder = TermBuilder::after(alloc, t.copy(alloc)?)?.term(alloc, t)?;
-    let node = TermNode::Bound(name(alloc, "x")?);
-    Ok(builder.node(alloc, node.copy(alloc)?)?.len())
+    Ok(builder.node(alloc, TermNode::Bound(name(alloc, "x")?))?.len())
 }
 
 #[test]

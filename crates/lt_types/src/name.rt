@@ -23,7 +23,8 @@ use std::marker::Model;
 use std::rc::Rc;
 use unicode_ident::{is_xid_continue, is_xid_start};
 
-/// A name, which contracts see as its list of characters. A copy shares the text and takes constant time.
+/// A name, which contracts see as its list of characters. A copy shares the text and takes constant
+/// time.
 #[derive(Debug, Drop)]
 pub struct Name {
     text: Rc<String>,
