@@ -1,8 +1,8 @@
 -- Maps on type variables: looking a name up, setting a pair, one pair for a name; substitution over the types of a list.
-use Rattle.std.proofs.Common.{◌≡◌, ◌∙◌, ℕ, zero, suc, ◌+◌, List, [], ◌∷◌, map, take, slice_get, refl, ap, sym, subst, if◌then◌else◌, nat_eq, Bool, true, false, not, ◌||◌, Some, add-one}
+use Rattle.std.proofs.Common.{◌≡◌, ◌∙◌, ℕ, zero, suc, ◌+◌, List, [], ◌∷◌, map, take, slice_get, refl, ap, sym, if◌then◌else◌, nat_eq, Bool, true, false, not, ◌||◌, Some, add-one}
 use Rattle.std.specs.Cmp.Lexicographic.{pointwise}
 use Rattle.std.specs.List.{AllByRecursion, IsDistinct}
-use Rattle.std.specs.Map.{lookup, keys_of}
+use Rattle.std.specs.Map.{lookup}
 use Rattle.std.proofs.lemmas.Bool.{and_parts, and_from, or_from, or_right, true≢false}
 use Rattle.std.proofs.lemmas.Option.{same_Some, none-some}
 use Rattle.std.proofs.lemmas.List.{length-map, take-map, drop-map, map-append}
