@@ -45,10 +45,8 @@ fn predicate(alloc: Global) -> Result<Ty, Memory>
 
 /// The type of equality.
 fn relation(alloc: Global) -> Result<Ty, Memory>
-    ensures {
-        IfOk result (λ t. t ≡ fun (type_variable (codes "a")) (fun (type_variable
-            (codes "a")) bool))
-    }
+    ensures { IfOk result (λ t. t ≡ fun (type_variable (codes "a"))
+        (fun (type_variable (codes "a")) bool)) }
 {
     Ok(Ty::fun(alloc, any_type(alloc)?, predicate(alloc)?)?)
 }
@@ -70,10 +68,8 @@ fn quantifier(alloc: Global) -> Result<Ty, Memory>
 
 /// The type of choice.
 fn choice(alloc: Global) -> Result<Ty, Memory>
-    ensures {
-        IfOk result (λ t. t ≡ fun (fun (type_variable (codes "a")) bool) (type_variable
-            (codes "a")))
-    }
+    ensures { IfOk result (λ t. t ≡ fun (fun (type_variable (codes "a")) bool)
+        (type_variable (codes "a"))) }
 {
     Ok(Ty::fun(alloc, predicate(alloc)?, any_type(alloc)?)?)
 }

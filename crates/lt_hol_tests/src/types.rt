@@ -1,6 +1,6 @@
 //! Types, builders of types, and new type variables.
 use crate::makers::{constructor, function, name, one, variable};
-use lt_hol::{Ty, TyBuilder, TyNode, TryCopy, are_clear, long_names, longest, variables};
+use lt_hol::{TryCopy, Ty, TyBuilder, TyNode, are_clear, long_names, longest, variables};
 use std::alloc::Global;
 use std::test::Fail;
 

@@ -60,10 +60,8 @@ impl Pending {
         at: usize,
     ) -> Result<(Pending, Option<Binder>), Memory>
         requires { 0 < length self }
-        ensures {
-            IfOk result (λ r. (around : Places) (later : List Places) → self ≡ around ∷ later
-                → (r.0 ≡ within at node.now around later) × (r.1 ≡ binder_at around node.now))
-        }
+        ensures { IfOk result (λ r. (around : Places) (later : List Places) → self ≡ around ∷ later
+            → (r.0 ≡ within at node.now around later) × (r.1 ≡ binder_at around node.now)) }
     {
         let Pending { scope, tasks } = self;
         let (scope, tasks) = next_tree(scope, tasks)?;
@@ -75,10 +73,8 @@ impl Pending {
 /// Closes the binders that are done, and takes the next tree.
 fn next_tree(scope: Scope, tasks: Vec<Task>) -> Result<(Scope, Vec<Task>), Memory>
     requires { 0 < length (scopes_of scope (reverse tasks.items)) }
-    ensures {
-        IfOk result (λ r. scopes_of scope (reverse tasks.items)
-            ≡ r.0 ∷ scopes_of r.0 (reverse r.1.items))
-    }
+    ensures { IfOk result (λ r. scopes_of scope (reverse tasks.items)
+        ≡ r.0 ∷ scopes_of r.0 (reverse r.1.items)) }
 {
     let mut scope = scope;
     let mut tasks = tasks;
@@ -99,9 +95,8 @@ fn descend(
     node: &TermNode,
     at: usize,
 ) -> Result<Pending, Memory>
-    ensures {
-        IfOk result (λ p. p ≡ within at node.now scope (scopes_of scope (reverse tasks.items)))
-    }
+    ensures { IfOk result (λ p. p
+        ≡ within at node.now scope (scopes_of scope (reverse tasks.items))) }
 {
     let mut tasks = tasks;
     match node {

@@ -49,10 +49,8 @@ impl Model for Name {
 impl Name {
     /// The name that the text is, if it is one.
     pub fn new(alloc: Global, text: &str) -> Result<Option<Name>, Memory>
-        ensures {
-            IfOk result (λ o. MatchOption o (is_name (chars text.now) ≡ false)
-                (λ n. (n ≡ chars text.now) × (is_name n ≡ true)))
-        }
+        ensures { IfOk result (λ o. MatchOption o (is_name (chars text.now) ≡ false)
+            (λ n. (n ≡ chars text.now) × (is_name n ≡ true))) }
     {
         if is_name(text) {
             Ok(Some(Name::word(alloc, text)?))
