@@ -3,6 +3,7 @@ use crate::row::RowFault;
 use std::alloc::{AllocError, Global};
 
 /// What is still to come of a byte that is written by its digits.
+#[derive(Clone, Copy)]
 enum Pending {
     Nothing,
     Both,

@@ -3,6 +3,7 @@ use crate::bytes::append_bytes;
 use crate::row::{Row, RowFault, RowFile, RowSink};
 use anyhow::{Context, Result};
 use std::alloc::Global;
+use std::str::FromStr;
 
 /// What a line with text goes on.
 #[derive(Clone, Copy)]
@@ -70,6 +71,11 @@ fn take_word(
             row.files.push(RowFile { name, bytes })?;
             Ok(Part::File)
         }
+        "copy" => {
+            let bytes = bytes_named(alloc, row, rest)?;
+            bytes_of(row, part)?.extend_from_slice(&bytes)?;
+            Ok(part)
+        }
         "reads" => {
             row.read_fails = numbers_behind(alloc, rest, "fail")?;
             Ok(Part::Nothing)
@@ -87,7 +93,7 @@ fn take_word(
             Ok(Part::Nothing)
         }
         _ => {
-            take_text(bytes_of(row, part)?, word, rest)?;
+            take_text(alloc, bytes_of(row, part)?, word, rest)?;
             Ok(part)
         }
     }
@@ -106,8 +112,21 @@ fn bytes_of(row: &mut Row, part: Part) -> Result<&mut Vec<u8>, RowFault> {
     }
 }
 
+/// A copy of the bytes that a file of the row has so far, the newest one of that name.
+fn bytes_named(alloc: Global, row: &Row, name: &str) -> Result<Vec<u8>, RowFault> {
+    match row.files.iter().rev().find(|file| file.name.as_str() == name) {
+        Some(file) => Ok(file.bytes.as_slice().to_vec(alloc)?),
+        None => Err(RowFault::NoFile),
+    }
+}
+
 /// Takes a line of text: `|` with its line feed, `>` without, and `times` a text over and over.
-fn take_text(bytes: &mut Vec<u8>, word: &str, rest: &str) -> Result<(), RowFault> {
+fn take_text(
+    alloc: Global,
+    bytes: &mut Vec<u8>,
+    word: &str,
+    rest: &str,
+) -> Result<(), RowFault> {
     match word {
         "|" => {
             append_bytes(rest, bytes)?;
@@ -117,13 +136,25 @@ fn take_text(bytes: &mut Vec<u8>, word: &str, rest: &str) -> Result<(), RowFault
         "times" => {
             let (count, text) = rest.split_once(' ').unwrap_or((rest, ""));
             let count: u64 = number(count)?;
-            for _ in 0..count {
-                append_bytes(text, bytes)?;
-            }
-            Ok(())
+            append_times(alloc, bytes, count, text)
         }
         _ => Err(RowFault::Unknown),
     }
+}
+
+/// Appends the bytes of a text that many times.
+fn append_times(
+    alloc: Global,
+    bytes: &mut Vec<u8>,
+    count: u64,
+    text: &str,
+) -> Result<(), RowFault> {
+    let mut once = Vec::new(alloc);
+    append_bytes(text, &mut once)?;
+    for _ in 0..count {
+        bytes.extend_from_slice(&once)?;
+    }
+    Ok(())
 }
 
 /// Takes what is said of a sink: its room, the writes that fail, or that its bytes follow.

@@ -93,6 +93,8 @@ pub(crate) enum RowFault {
     Unknown,
     #[error("a text stands behind `file`, `out` or `err`")]
     NoPlace,
+    #[error("the row has no file of that name")]
+    NoFile,
     #[error("a number is wanted")]
     Number,
     #[error("two hexadecimal digits are wanted behind ^")]
