@@ -45,7 +45,10 @@ fn digit(byte: u8) -> Result<u8, RowFault> {
 /// The lines of a row that stand for these bytes. Long texts are cut off.
 pub(crate) fn shown(alloc: Global, bytes: &[u8]) -> Result<String, AllocError> {
     let mut text = String::new(alloc);
-    for line in bytes.split_inclusive(|byte| *byte == b'\n').take(SHOWN_LINES) {
+    for line in bytes
+        .split_inclusive(|byte| *byte == b'\n')
+        .take(SHOWN_LINES)
+    {
         let (mark, line) = match line.strip_suffix(b"\n") {
             Some(line) => ("| ", line),
             None => ("> ", line),
@@ -61,6 +64,7 @@ pub(crate) fn shown(alloc: Global, bytes: &[u8]) -> Result<String, AllocError> {
 
 /// How many lines of a text, and how many bytes of a line, are shown.
 const SHOWN_LINES: usize = 100;
+
 const SHOWN_BYTES: usize = 1000;
 
 /// Writes a byte as a row does.

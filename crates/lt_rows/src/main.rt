@@ -12,9 +12,8 @@ use lt_io::{FileLibrary, read_all};
 use reading::read_rows;
 use row::Row;
 use std::alloc::Global;
-use std::env;
 use std::process::ExitCode;
-use std::str;
+use std::{env, str};
 use trial::{Difference, try_row};
 
 /// The longest file of rows.

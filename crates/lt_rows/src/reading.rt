@@ -27,12 +27,7 @@ pub(crate) fn read_rows(alloc: Global, text: &str) -> Result<Vec<Row>> {
 }
 
 /// Takes one line: an empty one or one that begins with # says nothing.
-fn take_line(
-    alloc: Global,
-    rows: &mut Vec<Row>,
-    part: Part,
-    line: &str,
-) -> Result<Part, RowFault> {
+fn take_line(alloc: Global, rows: &mut Vec<Row>, part: Part, line: &str) -> Result<Part, RowFault> {
     if line.is_empty() || line.starts_with('#') {
         return Ok(part);
     }
@@ -114,19 +109,19 @@ fn bytes_of(row: &mut Row, part: Part) -> Result<&mut Vec<u8>, RowFault> {
 
 /// A copy of the bytes that a file of the row has so far, the newest one of that name.
 fn bytes_named(alloc: Global, row: &Row, name: &str) -> Result<Vec<u8>, RowFault> {
-    match row.files.iter().rev().find(|file| file.name.as_str() == name) {
+    match row
+        .files
+        .iter()
+        .rev()
+        .find(|file| file.name.as_str() == name)
+    {
         Some(file) => Ok(file.bytes.as_slice().to_vec(alloc)?),
         None => Err(RowFault::NoFile),
     }
 }
 
 /// Takes a line of text: `|` with its line feed, `>` without, and `times` a text over and over.
-fn take_text(
-    alloc: Global,
-    bytes: &mut Vec<u8>,
-    word: &str,
-    rest: &str,
-) -> Result<(), RowFault> {
+fn take_text(alloc: Global, bytes: &mut Vec<u8>, word: &str, rest: &str) -> Result<(), RowFault> {
     match word {
         "|" => {
             append_bytes(rest, bytes)?;

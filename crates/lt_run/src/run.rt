@@ -31,11 +31,11 @@ pub fn lt<L: Library, O: Sink, E: Sink>(
     ensures status { result ≤ 5 }
     ensures accepted { result ≡ 0 → (file : List ℕ) × AreWords words.now file
         × Ends (L.files lib.new) file Ending.Accepted (O.written out.old) (O.written out.new)
-            (E.written err.old) (E.written err.new) }
+        (E.written err.old) (E.written err.new) }
     ensures refused { result ≡ 1 → (file : List ℕ) × (ending : Ending) × AreWords words.now file
         × (ending ≢ Ending.Accepted)
         × Ends (L.files lib.new) file ending (O.written out.old) (O.written out.new)
-            (E.written err.old) (E.written err.new) }
+        (E.written err.old) (E.written err.new) }
     ensures words { result ≡ 2 → ((file : List ℕ) → AreWords words.now file → ⊥)
         × Grew (O.written out.old) (O.written out.new) []
         × Grew (E.written err.old) (E.written err.new) usage }
@@ -48,7 +48,7 @@ pub fn lt<L: Library, O: Sink, E: Sink>(
     // Where a write failed or memory ran out, the summary stands as far as it came.
     ensures front { (result ≡ 4) ⊎ (result ≡ 5) → Grew (O.written out.old) (O.written out.new) []
         ⊎ ((file : List ℕ) × AreWords words.now file
-            × Stops (L.files lib.new) file (O.written out.old) (O.written out.new)) }
+        × Stops (L.files lib.new) file (O.written out.old) (O.written out.new)) }
     ensures same { StaysSame (L.files lib.old) (L.files lib.new) }
     // No other file is read: where the files are told and have the one that is named, they are told behind.
     ensures told { (file : List ℕ) → AreWords words.now file
@@ -161,10 +161,10 @@ fn check_file<L: Library, O: Sink, E: Sink>(
     ensures status { (result ≡ 0) ⊎ (result ≡ 1) ⊎ (result ≡ 3) ⊎ (result ≡ 4) ⊎ (result ≡ 5) }
     ensures accepted { result ≡ 0
         → Ends (L.files lib.new) file.now Ending.Accepted (O.written out.old) (O.written out.new)
-            (E.written err.old) (E.written err.new) }
+        (E.written err.old) (E.written err.new) }
     ensures refused { result ≡ 1 → (ending : Ending) × (ending ≢ Ending.Accepted)
         × Ends (L.files lib.new) file.now ending (O.written out.old) (O.written out.new)
-            (E.written err.old) (E.written err.new) }
+        (E.written err.old) (E.written err.new) }
     ensures read { result ≡ 3 → Rose (L.faults lib.old) (L.faults lib.new)
         × Grew (O.written out.old) (O.written out.new) []
         × Grew (E.written err.old) (E.written err.new) (read_fault_line file.now) }

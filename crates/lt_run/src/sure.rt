@@ -24,17 +24,17 @@ pub fn lt_sure(
     ensures status { (result ≡ 0) ⊎ (result ≡ 1) ⊎ (result ≡ 2) ⊎ (result ≡ 5) }
     ensures accepted { result ≡ 0 → (file : List ℕ) × AreWords words.now file
         × Ends (told_files lib.new) file Ending.Accepted (told_bytes out.old) (told_bytes out.new)
-            (told_bytes err.old) (told_bytes err.new) }
+        (told_bytes err.old) (told_bytes err.new) }
     ensures refused { result ≡ 1 → (file : List ℕ) × (ending : Ending) × AreWords words.now file
         × (ending ≢ Ending.Accepted)
         × Ends (told_files lib.new) file ending (told_bytes out.old) (told_bytes out.new)
-            (told_bytes err.old) (told_bytes err.new) }
+        (told_bytes err.old) (told_bytes err.new) }
     ensures words { result ≡ 2 → ((file : List ℕ) → AreWords words.now file → ⊥)
         × Grew (told_bytes out.old) (told_bytes out.new) []
         × Grew (told_bytes err.old) (told_bytes err.new) usage }
     ensures front { result ≡ 5 → Grew (told_bytes out.old) (told_bytes out.new) []
         ⊎ ((file : List ℕ) × AreWords words.now file
-            × Stops (told_files lib.new) file (told_bytes out.old) (told_bytes out.new)) }
+        × Stops (told_files lib.new) file (told_bytes out.old) (told_bytes out.new)) }
     ensures same { StaysSame (told_files lib.old) (told_files lib.new) }
     ensures told { (file : List ℕ) → AreWords words.now file
         → StaysTold (told_files lib.old) (told_files lib.new) file }

@@ -121,7 +121,7 @@ fn report_item<O: Sink>(alloc: Global, item: &Item, out: &mut O) -> Result<(), C
 fn finish<O: Sink>(alloc: Global, counts: Counts, out: &mut O) -> Result<Ending, Cut>
     ensures all { IfOk result (λ ending. (ending ≡ Ending.Accepted)
         × Grew (O.written out.old) (O.written out.new)
-            (encode_utf8_all (line_of_counts counts.items counts.axioms counts.lemmas))) }
+        (encode_utf8_all (line_of_counts counts.items counts.axioms counts.lemmas))) }
     ensures front { OnErr result (GrewByFront (O.written out.old) (O.written out.new)
         (encode_utf8_all (line_of_counts counts.items counts.axioms counts.lemmas))) }
     ensures cause { CutByCause (O.faults out.old) (O.faults out.new) result }
