@@ -10,7 +10,7 @@ use Rattle.lt_definitions.specs.Typing.{Signature, Fault, type_fault, with_ok, u
 use Rattle.lt_definitions.specs.Alpha.{is_alpha}
 use Rattle.lt_definitions.specs.Binding.{replaced}
 use Rattle.lt_definitions.specs.Rules.{Sequent, has_term, union, without, line_at, as_equation, as_implication, as_forall, at_argument, beta_of, eta_of, type_of, selection}
-use Rattle.lt_definitions.specs.Derivations.{fault_of, term_fault}
+use Rattle.lt_definitions.specs.Derivations.{term_fault}
 use Rattle.lt_nameless.specs.Nameless.{Nameless, nameless_free, nameless_bound, nameless_loose, nameless_constant, nameless_application, nameless_abstraction, deeper, nameless_name, nameless, nameless_sequent}
 use Rattle.lt_nameless.specs.NamelessRules.{nameless_replaced, nameless_instance, nameless_has_free, has_index, same_nameless, nameless_typed, nameless_has_type, nameless_type_of, nameless_as_equation, nameless_as_implication, nameless_as_forall, nameless_at, nameless_beta, nameless_eta, nameless_union, nameless_without, nameless_selection, nameless_statements}
 use Rattle.lt_definitions.proofs.SameNames.{true-false, bool_cases, both-true, true-both, name-true, true-name, name-false, false-name, type-true, true-type, row-true, true-row}
