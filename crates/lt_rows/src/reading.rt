@@ -146,11 +146,22 @@ fn append_times(
 ) -> Result<(), RowFault> {
     let mut once = Vec::new(alloc);
     append_bytes(text, &mut once)?;
-    for _ in 0..count {
+    // A long text is put together of long pieces.
+    let mut piece = Vec::new(alloc);
+    for _ in 0..AT_ONCE {
+        piece.extend_from_slice(&once)?;
+    }
+    for _ in 0..count / AT_ONCE {
+        bytes.extend_from_slice(&piece)?;
+    }
+    for _ in 0..count % AT_ONCE {
         bytes.extend_from_slice(&once)?;
     }
     Ok(())
 }
+
+/// How many copies of a text a long piece has.
+const AT_ONCE: u64 = 1024;
 
 /// Takes what is said of a sink: its room, the writes that fail, or that its bytes follow.
 fn take_sink(alloc: Global, sink: &mut RowSink, rest: &str) -> Result<(), RowFault> {
