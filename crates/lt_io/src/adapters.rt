@@ -1,7 +1,8 @@
 //! The adapters over the system's files and std's writers. They tell no content.
-ghost use Rattle.std.specs.Prelude.{◌≡◌, ◌<◌, ◌≤◌, length, min, IfOk, OnErr, None};
+ghost use Rattle.std.specs.Prelude.{◌≡◌, ◌<◌, ◌≤◌, length, IfOk, IsErr, OnErr, Ok, MatchResult, None};
 ghost use Rattle.std.specs.Io.{ReadsAtMost};
-ghost use Rattle.lt_io.specs.Causes.{HasCause, CountsFault, Rose};
+ghost use Rattle.std.specs.Io.KnownBytes.{ReadConsumes, WriteAppends};
+ghost use Rattle.lt_io.specs.Causes.{HasCause, CountsFault, Rose, one_more};
 ghost use Rattle.lt_io.specs.Files.{IsPiece, HoldsFile};
 
 use crate::library::PIECE;
@@ -9,9 +10,25 @@ use crate::{Failed, Library, Sink};
 use std::alloc::Global;
 use std::fs::File;
 use std::io;
-use std::io::{Read, Seek, SeekFrom, Write};
+use std::io::{ErrorKind, Read, Seek, SeekFrom, Write};
 use std::marker::Model;
 use std::rt::Files;
+
+/// What a call of the system answered, as an adapter answers it: a fault is Failed, and is counted.
+fn counted(answer: io::Result<usize>, faults: &mut u64) -> Result<usize, Failed>
+    ensures told { MatchResult answer
+        (λ n. (result ≡ Ok n) × (faults.new ≡ faults.old))
+        (λ _. IsErr result × (faults.new ≡ one_more faults.old)) }
+    ensures cause { HasCause faults.old faults.new result }
+{
+    match answer {
+        Ok(count) => Ok(count),
+        Err(_) => {
+            *faults = faults.saturating_add(1);
+            Err(Failed)
+        }
+    }
+}
 
 /// An open file, with the place where its next byte stands.
 #[derive(Drop)]
@@ -21,15 +38,23 @@ struct OpenedFile<F> {
 }
 
 impl<F: Read + Seek> OpenedFile<F> {
-    /// Reads from a place on, and seeks only where the file doesn't stand there.
-    fn read_from(&mut self, at: u64, into: &mut [u8]) -> io::Result<usize>
-        ensures bound { ReadsAtMost result into.new }
-    {
+    /// Goes to a place, and seeks only where the file doesn't stand there.
+    fn go_to(&mut self, at: u64) -> io::Result<()> {
         if self.place != at {
             self.file.seek(SeekFrom::Start(at))?;
+            self.place = at;
         }
+        Ok(())
+    }
+
+    /// Reads on from where it stands, by one read of the file. Of a file whose bytes are known, these are
+    /// the next ones, and no byte is its end.
+    fn read_on(&mut self, into: &mut [u8]) -> io::Result<usize>
+        ensures bound { ReadsAtMost result into.new }
+        ensures bytes { ReadConsumes (F.remaining self.old.file) (F.remaining self.new.file) result into.new }
+    {
         let count = self.file.read(into)?;
-        self.place = at.saturating_add(count as u64);
+        self.place = self.place.saturating_add(count as u64);
         Ok(count)
     }
 }
@@ -99,13 +124,17 @@ impl<'a, R: Files> FileLibrary<'a, R> {
         self.opened = Some(opened);
     }
 
-    /// Reads into the library's own piece, so that a failed read leaves the caller's slice alone.
-    fn read_piece(&mut self, name: &str, at: u64, room: usize) -> io::Result<usize>
-        ensures bound { IfOk result (λ n. n ≤ min room 65536) }
+    /// Reads by way of the library's own piece, so that a failed read leaves the caller's slice alone.
+    fn read_piece(&mut self, name: &str, at: u64, into: &mut [u8]) -> io::Result<usize>
+        ensures bound { IfOk result (λ n. n ≤ length into.new) }
+        ensures untouched { OnErr result (into.new ≡ into.old) }
         ensures count { self.new ≡ self.old }
     {
         let mut opened = self.take_opened(name, at)?;
-        let count = opened.read_from(at, &mut self.piece[..room.min(PIECE)])?;
+        opened.go_to(at)?;
+        let room = into.len().min(PIECE);
+        let count = opened.read_on(&mut self.piece[..room])?;
+        into[..count].copy_from_slice(&self.piece[..count]);
         if count > 0 {
             self.keep_opened(name, opened);
         }
@@ -126,20 +155,12 @@ impl<'a, R: Files> Library for FileLibrary<'a, R> {
         ensures counted { CountsFault self.old self.new result }
         ensures cause { HasCause self.old self.new result }
     {
-        match self.read_piece(name, at, into.len()) {
-            Ok(count) => {
-                into[..count].copy_from_slice(&self.piece[..count]);
-                Ok(count)
-            }
-            Err(_) => {
-                self.faults = self.faults.saturating_add(1);
-                Err(Failed)
-            }
-        }
+        let answer = self.read_piece(name, at, into);
+        counted(answer, &mut self.faults)
     }
 }
 
-/// A writer of std as a sink. Contracts see its count of faults.
+/// A writer of std as a sink. Contracts see the writer and the count of faults.
 #[derive(Drop)]
 pub struct StdSink<W> {
     inner: W,
@@ -147,17 +168,17 @@ pub struct StdSink<W> {
 }
 
 impl<W> Model for StdSink<W> {
-    ghost use Rattle.std.specs.Prelude.{ℕ};
+    ghost use Rattle.lt_io.specs.Written.{CountedWriter};
 
-    ghost Value = { ℕ };
+    ghost Value = { CountedWriter W };
 
-    ghost view = { λ s. s.faults };
+    ghost view = { λ s. record { inner = s.inner; faults = s.faults } };
 }
 
 impl<W: Write> StdSink<W> {
     /// The writer, without a fault so far.
     pub fn new(inner: W) -> Self
-        ensures { result ≡ 0 }
+        ensures { result ≡ record { inner = inner; faults = 0 } }
     {
         StdSink { inner, faults: 0 }
     }
@@ -166,20 +187,30 @@ impl<W: Write> StdSink<W> {
 impl<W: Write> Sink for StdSink<W> {
     ghost written = { λ _. None };
 
-    ghost faults = { λ count. count };
+    ghost faults = { λ s. s.faults };
 
     fn write(&mut self, piece: &[u8]) -> Result<usize, Failed>
+        // A writer whose bytes are known got the front that is answered, and nothing at a failure.
+        ensures bytes { WriteAppends (W.contents self.old.inner) (W.contents self.new.inner) result piece.now }
         ensures bound { IfOk result (λ n. n ≤ length piece.now) }
-        ensures none { IfOk result (λ n. n ≡ 0 → 0 < length piece.now → Rose self.old self.new) }
-        ensures counted { CountsFault self.old self.new result }
-        ensures cause { HasCause self.old self.new result }
+        ensures none { IfOk result (λ n. n ≡ 0 → 0 < length piece.now
+            → Rose self.old.faults self.new.faults) }
+        ensures counted { CountsFault self.old.faults self.new.faults result }
+        ensures cause { HasCause self.old.faults self.new.faults result }
     {
-        match self.inner.write(piece) {
-            Ok(count) if count > 0 || piece.is_empty() => Ok(count),
-            _ => {
-                self.faults = self.faults.saturating_add(1);
-                Err(Failed)
-            }
-        }
+        let answer = self.inner.write(piece);
+        counted(some_taken(answer, piece), &mut self.faults)
+    }
+}
+
+/// What a writer answered, where to take none of a piece that has bytes is a fault too.
+fn some_taken(answer: io::Result<usize>, piece: &[u8]) -> io::Result<usize>
+    ensures taken { IfOk result (λ n. answer ≡ Ok n) }
+    ensures none { IfOk result (λ n. n ≡ 0 → length piece.now ≡ 0) }
+    ensures failed { OnErr result (IfOk answer (λ n. n ≡ 0)) }
+{
+    match answer {
+        Ok(0) if !piece.is_empty() => Err(io::Error::from(ErrorKind::WriteZero)),
+        answer => answer,
     }
 }

@@ -1,4 +1,5 @@
-//! The tests: each call once, the adapters over real files, devices and pipes, and faults in mid-stream.
+//! The adapters over real files, devices and pipes, and over a file that fails in mid-stream: what no
+//! contract can say of the system.
 use super::*;
 use std::alloc::{AllocError, Global};
 use std::fs;
@@ -10,7 +11,7 @@ use std::test::Fail;
 
 mod scripted;
 
-use scripted::{OneByteWriter, ScriptedFiles};
+use scripted::ScriptedFiles;
 
 const LONG: usize = 200_000;
 
@@ -36,97 +37,6 @@ fn expect_fault<T: Drop>(rt: &impl Abort, found: Result<T, ReadFault>) {
 
 fn expect_too_long<T: Drop>(rt: &impl Abort, found: Result<T, ReadFault>) {
     assert!(rt; matches!(&found, Err(ReadFault::TooLong)), "not too long");
-}
-
-#[test]
-fn a_library_in_memory_fails_at_its_calls_alone(rt: HostRuntime) -> Result<(), Fail> {
-    let alloc = rt.alloc();
-    let mut lib = MemoryLibrary::new(alloc, [2u64, 4].to_vec(alloc)?);
-    let name = Name8::new(alloc, "a.lt")?;
-    assert_eq!(rt; name.as_str(), "a.lt");
-    lib.put(name, b"old".to_vec(alloc)?)?;
-    lib.put(Name8::new(alloc, "a.lt")?, b"hello".to_vec(alloc)?)?;
-    let calls = [
-        ("a.lt", 0, Some("hel")),
-        ("a.lt", 0, None),
-        ("a.lt", 3, Some("lo")),
-        ("a.lt", 3, None),
-        ("b.lt", 0, None),
-        ("a.lt", 5, Some("")),
-    ];
-    for (name, at, wanted) in calls {
-        let mut into = *b"xyz";
-        match (lib.read(name, at, &mut into), wanted) {
-            (Ok(count), Some(bytes)) => {
-                assert!(rt; count <= 3);
-                assert_eq!(rt; &into[..count], bytes.as_bytes(), "at {at}");
-            }
-            (Err(_), None) => assert_eq!(rt; into.as_slice(), b"xyz".as_slice()),
-            _ => assert!(rt; false, "at {at}"),
-        }
-    }
-    Ok(())
-}
-
-#[test]
-fn a_file_in_memory_is_read_whole_or_not_at_all(rt: HostRuntime) -> Result<(), Fail> {
-    let alloc = rt.alloc();
-    let text = long_text(alloc)?;
-    let mut lib = MemoryLibrary::new(alloc, [3u64].to_vec(alloc)?);
-    lib.put(Name8::new(alloc, "long.lt")?, long_text(alloc)?)?;
-    expect_fault(&rt, read_all(alloc, &mut lib, "long.lt", 1_000_000));
-    expect_bytes(&rt, read_all(alloc, &mut lib, "long.lt", 200_000), &text);
-    expect_too_long(&rt, read_all(alloc, &mut lib, "long.lt", 199_999));
-    expect_fault(&rt, read_all(alloc, &mut lib, "other.lt", 9));
-    Ok(())
-}
-
-#[test]
-fn a_sure_library_answers_each_read(rt: HostRuntime) -> Result<(), Fail> {
-    let alloc = rt.alloc();
-    let mut lib = SureLibrary::new(alloc);
-    lib.put(Name8::new(alloc, "a.lt")?, b"old".to_vec(alloc)?)?;
-    lib.put(Name8::new(alloc, "a.lt")?, b"hello".to_vec(alloc)?)?;
-    expect_bytes(&rt, read_all(alloc, &mut lib, "a.lt", 5), b"hello");
-    expect_too_long(&rt, read_all(alloc, &mut lib, "a.lt", 4));
-    expect_bytes(&rt, read_all(alloc, &mut lib, "b.lt", 0), b"");
-    Ok(())
-}
-
-#[test]
-fn a_sink_in_memory_takes_a_piece_whole_or_not_at_all(rt: HostRuntime) -> Result<(), Fail> {
-    let alloc = rt.alloc();
-    let mut out = MemorySink::new(alloc, [2u64].to_vec(alloc)?, 6)?;
-    let calls = [
-        ("abc", true, "abc"),
-        ("de", false, "abc"),
-        ("defg", false, "abc"),
-        ("def", true, "abcdef"),
-        ("", true, "abcdef"),
-        ("g", false, "abcdef"),
-    ];
-    for (piece, taken, wanted) in calls {
-        let answer = out.write(piece.as_bytes());
-        match answer {
-            Ok(count) => assert!(rt; taken && count == piece.len(), "{piece}"),
-            Err(_) => assert!(rt; !taken, "{piece}"),
-        }
-        assert_eq!(rt; out.bytes(), wanted.as_bytes(), "{piece}");
-    }
-    Ok(())
-}
-
-#[test]
-fn a_sure_sink_tells_its_bytes_until_one_is_dropped(rt: HostRuntime) -> Result<(), Fail> {
-    let mut out = SureSink::new(rt.alloc(), 5)?;
-    write_all(&mut out, b"abc")?;
-    write_all(&mut out, b"de")?;
-    assert_eq!(rt; out.bytes().ok_or("untold")?, b"abcde".as_slice());
-    assert_eq!(rt; out.write(b"fgh").map_err(|_| "failed")?, 3);
-    assert!(rt; out.bytes().is_none());
-    write_all(&mut out, b"")?;
-    assert!(rt; out.bytes().is_none());
-    Ok(())
 }
 
 #[test]
@@ -209,29 +119,6 @@ fn a_full_device_refuses(rt: HostRuntime) -> Result<(), Fail> {
     let device = File::options().write(true).open(&rt, "/dev/full")?;
     let mut out = StdSink::new(device);
     assert!(rt; write_all(&mut out, b"abc").is_err());
-    Ok(())
-}
-
-#[test]
-fn a_writer_may_take_a_byte_at_a_time(rt: HostRuntime) -> Result<(), Fail> {
-    for (room, written, wanted) in [
-        (9, true, "hello"),
-        (5, true, "hello"),
-        (3, false, "hel"),
-        (0, false, ""),
-    ] {
-        let mut writer = OneByteWriter::new(rt.alloc(), room);
-        {
-            let mut out = StdSink::new(&mut writer);
-            assert_eq!(rt; out.write(b"").map_err(|_| "failed")?, 0);
-            assert_eq!(rt;
-                write_all(&mut out, b"hello").is_ok(),
-                written,
-                "room {room}"
-            );
-        }
-        assert_eq!(rt; writer.taken.as_slice(), wanted.as_bytes(), "room {room}");
-    }
     Ok(())
 }
 

@@ -84,7 +84,7 @@ term_from ts (n ∷ ns) = if keeps_term n then only ts ns else option_and_then (
 
 -- The lines that were made, and what stands ready for the next one, the newest first.
 pub record LinesMade : Type 0 where
-  pub lines : List rules.Rule
+  pub lines : List (rules.Rule TermTree)
   pub terms : List TermTree
   pub numbers : List ℕ
   pub labels : List Chars
@@ -96,7 +96,7 @@ abbrev pub with_terms : LinesMade → List TermTree → LinesMade
 with_terms s ts = record s { terms = ts }
 
 -- one more line
-abbrev pub with_line : LinesMade → rules.Rule → LinesMade
+abbrev pub with_line : LinesMade → rules.Rule TermTree → LinesMade
 with_line s r = record s { lines = s.lines ++ r ∷ [] }
 
 abbrev pub make_assume : LinesMade → Option LinesMade
@@ -135,7 +135,7 @@ line_step (Act a) s = line_act a s
 line_step _ s = None
 
 -- the lines that notes make
-abbrev pub lines_from : LinesMade → List Instruction → Option (List rules.Rule)
+abbrev pub lines_from : LinesMade → List Instruction → Option (List (rules.Rule TermTree))
 lines_from s [] = Some s.lines
 lines_from s (n ∷ ns) = option_and_then (λ s'. lines_from s' ns) (line_step n s)
 

@@ -9,9 +9,8 @@ ghost use Rattle.lt_items.specs.Making.{item_from, body_from, command_from, labe
 use crate::lines::read_lines;
 use crate::terms::read_term;
 use crate::types::read_type;
-use lt_hol::Item;
+use lt_hol::{Item, Memory, Name};
 use lt_reader::{Command, Instruction};
-use lt_types::{Memory, Name};
 use std::alloc::Global;
 use std::vec::IntoIter;
 

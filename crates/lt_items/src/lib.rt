@@ -10,6 +10,3 @@ mod types;
 
 pub use item::item_of_notes;
 pub use next::next_item;
-
-#[cfg(test)]
-mod tests;

@@ -2,8 +2,7 @@
 ghost use Rattle.std.specs.Prelude.{◌≡◌, true};
 ghost use Rattle.lt_items.specs.Places.{are_places};
 
-use lt_hol::Lines;
-use lt_types::Name;
+use lt_hol::{Lines, Name};
 
 /// Lines that are being made: those made so far, and the places of terms, the numbers and the labels that stand ready for the next one.
 #[derive(Drop)]

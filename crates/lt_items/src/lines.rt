@@ -7,9 +7,8 @@ ghost use Rattle.lt_items.specs.Making.{none_made, line_step, line_act, lines_fr
 ghost use Rattle.lt_items.specs.Parts.{lines_made};
 
 use crate::line_maker::LineMaker;
-use lt_hol::{Line, Lines, TermNode};
+use lt_hol::{Line, Lines, List, Memory, Name, TermNode};
 use lt_reader::{Action, Instruction, Rule};
-use lt_types::{List, Memory, Name};
 use std::alloc::Global;
 use std::vec::IntoIter;
 

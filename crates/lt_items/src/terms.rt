@@ -3,9 +3,8 @@ ghost use Rattle.std.specs.Prelude.{◌≡◌, [], Some, IfOk, IsSome};
 ghost use Rattle.std.specs.Vec.Iter.{into_iter_items};
 ghost use Rattle.lt_items.specs.Making.{term_step, term_from, keeps_term};
 
-use lt_hol::{Term, TermBuilder};
+use lt_hol::{List, Memory, Term, TermBuilder};
 use lt_reader::{Action, Instruction};
-use lt_types::{List, Memory};
 use std::alloc::Global;
 use std::vec::IntoIter;
 

@@ -3,8 +3,8 @@ ghost use Rattle.std.specs.Prelude.{◌≡◌, ◌≤◌, ◌∷◌, [], Some, r
 ghost use Rattle.std.specs.Vec.Iter.{into_iter_items};
 ghost use Rattle.lt_items.specs.Making.{types_made, type_step, type_from, keeps_type, close_type};
 
+use lt_hol::{Memory, Name, Ty, TyBuilder};
 use lt_reader::{Action, Instruction};
-use lt_types::{Memory, Name, Ty, TyBuilder};
 use std::alloc::Global;
 use std::vec::IntoIter;
 

@@ -4,8 +4,6 @@
 mod ascii;
 mod number;
 mod scan;
-#[cfg(test)]
-mod tests;
 
 ghost use Rattle.std.specs.Prelude.{◌≡◌, ◌<◌, length};
 ghost use Rattle.lt_texts.specs.Slices.{IsSlice, IsRead, bytes_of, OnToken, OnNone};

@@ -7,8 +7,6 @@ mod reading;
 mod symbol;
 mod table;
 mod taking;
-#[cfg(test)]
-mod tests;
 mod unread;
 
 pub use reader::Reader;

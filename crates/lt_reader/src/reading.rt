@@ -12,8 +12,8 @@ ghost use Rattle.lt_reader.specs.Reading.{Reads, IsStopped};
 use crate::symbol::{Instruction, Symbol, Word};
 use crate::taking::take;
 use crate::unread::Unread;
-use lt_texts::lexical::{Lexed, Token, TokenKind};
 use lt_lex::{Lexer, parse_number};
+use lt_texts::lexical::{Lexed, Token, TokenKind};
 use lt_types::{Memory, Name};
 use std::alloc::Global;
 

@@ -1,6 +1,5 @@
 //! The table of commands and rules: the word of each, and what is expected behind it.
-ghost use Rattle.std.specs.Prelude.{◌≡◌, IsTrue, codes, bytes_eq, nat_lt};
-ghost use Rattle.std.specs.List.{list_all};
+ghost use Rattle.std.specs.Prelude.{◌≡◌};
 ghost use Rattle.lt_reader.specs.Table.{command_of, row, rule_of, rule_row};
 
 use crate::symbol::{Action, Command, Rule, Symbol};
@@ -10,15 +9,15 @@ use lt_types::Name;
 pub(crate) fn command_of(name: &Name) -> Option<Command>
     ensures { result ≡ command_of name.now }
 {
-    if is_word(name, "plain") {
+    if name.is_word("plain") {
         Some(Command::Header)
-    } else if is_word(name, "type") {
+    } else if name.is_word("type") {
         Some(Command::TypeItem)
-    } else if is_word(name, "const") {
+    } else if name.is_word("const") {
         Some(Command::ConstItem)
-    } else if is_word(name, "axiom") {
+    } else if name.is_word("axiom") {
         Some(Command::AxiomItem)
-    } else if is_word(name, "lemma") {
+    } else if name.is_word("lemma") {
         Some(Command::LemmaItem)
     } else {
         None
@@ -62,13 +61,13 @@ pub(crate) fn row(command: Command) -> &'static [Symbol]
 pub(crate) fn rule_of(name: &Name) -> Option<Rule>
     ensures { result ≡ rule_of name.now }
 {
-    if is_word(name, "assume") {
+    if name.is_word("assume") {
         Some(Rule::Assume)
-    } else if is_word(name, "impI") {
+    } else if name.is_word("impI") {
         Some(Rule::ImpI)
-    } else if is_word(name, "mp") {
+    } else if name.is_word("mp") {
         Some(Rule::Mp)
-    } else if is_word(name, "thm") {
+    } else if name.is_word("thm") {
         Some(Rule::Thm)
     } else {
         None
@@ -105,12 +104,4 @@ pub(crate) fn rule_row(rule: Rule) -> &'static [Symbol]
             Symbol::Do(Action::MakeLine(Rule::Thm)),
         ],
     }
-}
-
-/// Whether a name is a word of ASCII characters.
-fn is_word(name: &Name, word: &str) -> bool
-    requires { IsTrue (list_all (λ c. nat_lt c 128) word.now) }
-    ensures { result ≡ bytes_eq name.now word.now }
-{
-    name.text() == word
 }

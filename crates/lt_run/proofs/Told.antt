@@ -131,3 +131,11 @@ refuses_wrong status files files' words file text items ending out out' err err'
 refuses_wrong status files files' words file text items ending out out' err err' same told are has walk wrong (inr (inl one)) accepted other = inl one
 refuses_wrong status files files' words file text items ending out out' err err' same told are has walk wrong (inr (inr (inl two))) accepted other = absurd (other two file are)
 refuses_wrong status files files' words file text items ending out out' err err' same told are has walk wrong (inr (inr (inr five))) accepted other = inr five
+
+-- other words get the usage line, where no write fails
+pub two_alone : (status : ℕ) → (status ≡ 2) ⊎ (status ≡ 4) → (status ≡ 0) ⊎ (status ≡ 1) ⊎ (status ≡ 2) ⊎ (status ≡ 5) → status ≡ 2
+two_alone status (inl two) known = two
+two_alone status (inr four) (inl nought) = omega (arith, four, nought)
+two_alone status (inr four) (inr (inl one)) = omega (arith, four, one)
+two_alone status (inr four) (inr (inr (inl two))) = two
+two_alone status (inr four) (inr (inr (inr five))) = omega (arith, four, five)

@@ -1,4 +1,6 @@
+-- The definitions that the contracts cite.
 pub mod Counts
+pub mod Cuts
 pub mod Walking
 pub mod Reports
 pub mod Words

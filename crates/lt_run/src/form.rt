@@ -9,10 +9,9 @@ ghost use Rattle.lt_items.specs.NextItem.{NextItem};
 ghost use Rattle.lt_reader.specs.Reading.{AtEnd, HasNoItems, IsOfText};
 ghost use Rattle.lt_run.specs.Walking.{IsOfForm, IsLeftOfForm};
 
-use lt_hol::Item;
+use lt_hol::{Item, Memory};
 use lt_items::next_item;
 use lt_reader::{Reader, Unread};
-use lt_types::Memory;
 use std::alloc::Global;
 
 /// Whether the text is of the form. It is read to its end or to its first wrong place.

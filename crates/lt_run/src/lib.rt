@@ -12,6 +12,3 @@ mod words;
 pub use run::lt;
 pub use sure::lt_sure;
 pub use words::Text;
-
-#[cfg(test)]
-mod tests;

@@ -11,8 +11,8 @@ ghost use Rattle.lt_run.specs.Words.{AreWords, usage};
 use crate::report::{ending_text, read_fault_text};
 use crate::walk::{Cut, walk_text};
 use crate::words::Text;
-use lt_texts::walks::Ending;
 use lt_io::{Library, ReadFault, Sink, read_all, write_all};
+use lt_texts::walks::Ending;
 use std::alloc::Global;
 
 /// Does what the words behind the program's name say, and answers the status.
@@ -30,22 +30,35 @@ pub fn lt<L: Library, O: Sink, E: Sink>(
 ) -> u8
     ensures status { result ≤ 5 }
     ensures accepted { result ≡ 0 → (file : List ℕ) × AreWords words.now file
-        × Ends (L.files lib.new) file Ending.Accepted (O.written out.old) (O.written out.new) (E.written err.old) (E.written err.new) }
-    ensures refused { result ≡ 1 → (file : List ℕ) × (ending : Ending) × AreWords words.now file × (ending ≢ Ending.Accepted)
-        × Ends (L.files lib.new) file ending (O.written out.old) (O.written out.new) (E.written err.old) (E.written err.new) }
+        × Ends (L.files lib.new) file Ending.Accepted (O.written out.old) (O.written out.new)
+        (E.written err.old) (E.written err.new) }
+    ensures refused { result ≡ 1 → (file : List ℕ) × (ending : Ending) × AreWords words.now file
+        × (ending ≢ Ending.Accepted)
+        × Ends (L.files lib.new) file ending (O.written out.old) (O.written out.new)
+        (E.written err.old) (E.written err.new) }
     ensures words { result ≡ 2 → ((file : List ℕ) → AreWords words.now file → ⊥)
-        × Grew (O.written out.old) (O.written out.new) [] × Grew (E.written err.old) (E.written err.new) usage }
-    ensures read { result ≡ 3 → (file : List ℕ) × AreWords words.now file × Rose (L.faults lib.old) (L.faults lib.new)
-        × Grew (O.written out.old) (O.written out.new) [] × Grew (E.written err.old) (E.written err.new) (read_fault_line file) }
-    ensures write { result ≡ 4 → Rose (O.faults out.old) (O.faults out.new) ⊎ Rose (E.faults err.old) (E.faults err.new) }
+        × Grew (O.written out.old) (O.written out.new) []
+        × Grew (E.written err.old) (E.written err.new) usage }
+    ensures read { result ≡ 3 → (file : List ℕ) × AreWords words.now file
+        × Rose (L.faults lib.old) (L.faults lib.new)
+        × Grew (O.written out.old) (O.written out.new) []
+        × Grew (E.written err.old) (E.written err.new) (read_fault_line file) }
+    ensures write { result ≡ 4
+        → Rose (O.faults out.old) (O.faults out.new) ⊎ Rose (E.faults err.old) (E.faults err.new) }
     // Where a write failed or memory ran out, the summary stands as far as it came.
     ensures front { (result ≡ 4) ⊎ (result ≡ 5) → Grew (O.written out.old) (O.written out.new) []
-        ⊎ ((file : List ℕ) × AreWords words.now file × Stops (L.files lib.new) file (O.written out.old) (O.written out.new)) }
+        ⊎ ((file : List ℕ) × AreWords words.now file
+        × Stops (L.files lib.new) file (O.written out.old) (O.written out.new)) }
     ensures same { StaysSame (L.files lib.old) (L.files lib.new) }
     // No other file is read: where the files are told and have the one that is named, they are told behind.
-    ensures told { (file : List ℕ) → AreWords words.now file → StaysTold (L.files lib.old) (L.files lib.new) file }
-    // Other words read no file.
+    ensures told { (file : List ℕ) → AreWords words.now file
+        → StaysTold (L.files lib.old) (L.files lib.new) file }
+    // Other words read no file and take no memory.
     ensures untouched { ((file : List ℕ) → AreWords words.now file → ⊥) → lib.new ≡ lib.old }
+    ensures other { ((file : List ℕ) → AreWords words.now file → ⊥) → (result ≡ 2) ⊎ (result ≡ 4) }
+    // No count of faults falls.
+    ensures later { (L.faults lib.old ≤ L.faults lib.new) × (O.faults out.old ≤ O.faults out.new)
+        × (E.faults err.old ≤ E.faults err.new) }
 {
     let [mode, file] = words else {
         return refuse_words(err);
@@ -62,6 +75,7 @@ const MOST: u64 = 268_435_455;
 fn refuse_words<E: Sink>(err: &mut E) -> u8
     ensures words { result ≡ 2 → Grew (E.written err.old) (E.written err.new) usage }
     ensures write { result ≡ 4 → Rose (E.faults err.old) (E.faults err.new) }
+    ensures later { E.faults err.old ≤ E.faults err.new }
     ensures status { (result ≡ 2) ⊎ (result ≡ 4) }
 {
     match write_all(err, b"usage: lt MODE [--summary] [--limit N] FILE..\n") {
@@ -71,8 +85,10 @@ fn refuse_words<E: Sink>(err: &mut E) -> u8
 }
 
 fn tell_read_fault<E: Sink>(alloc: Global, file: &str, err: &mut E) -> u8
-    ensures read { result ≡ 3 → Grew (E.written err.old) (E.written err.new) (read_fault_line file.now) }
+    ensures read { result ≡ 3
+        → Grew (E.written err.old) (E.written err.new) (read_fault_line file.now) }
     ensures write { result ≡ 4 → Rose (E.faults err.old) (E.faults err.new) }
+    ensures later { E.faults err.old ≤ E.faults err.new }
     ensures status { (result ≡ 3) ⊎ (result ≡ 4) ⊎ (result ≡ 5) }
 {
     let Ok(line) = read_fault_text(alloc, file) else {
@@ -88,8 +104,10 @@ fn tell_read_fault<E: Sink>(alloc: Global, file: &str, err: &mut E) -> u8
 fn tell_ending<E: Sink>(alloc: Global, file: &str, ending: Ending, err: &mut E) -> u8
     ensures accepted { result ≡ 0 → ending ≡ Ending.Accepted }
     ensures refused { result ≡ 1 → ending ≢ Ending.Accepted }
-    ensures line { (result ≡ 0) ⊎ (result ≡ 1) → Grew (E.written err.old) (E.written err.new) (error_line file.now ending) }
+    ensures line { (result ≡ 0) ⊎ (result ≡ 1)
+        → Grew (E.written err.old) (E.written err.new) (error_line file.now ending) }
     ensures write { result ≡ 4 → Rose (E.faults err.old) (E.faults err.new) }
+    ensures later { E.faults err.old ≤ E.faults err.new }
     ensures status { (result ≡ 0) ⊎ (result ≡ 1) ⊎ (result ≡ 4) ⊎ (result ≡ 5) }
 {
     let Ok(line) = ending_text(alloc, file, ending) else {
@@ -116,10 +134,12 @@ fn status_of(ending: Ending) -> u8
 fn read_text<L: Library>(alloc: Global, file: &str, lib: &mut L) -> Result<Vec<u8>, ReadFault>
     ensures text { IfOk result (λ text. IsTextOf (L.files lib.new) file.now text.items) }
     ensures short { IfOk result (λ text. length text.items ≤ plain_limit) }
-    ensures too_long { IsErrOf result ReadFault.TooLong → (text : List ℕ) × IsTextOf (L.files lib.new) file.now text × (plain_limit < length text) }
+    ensures too_long { IsErrOf result ReadFault.TooLong → (text : List ℕ)
+        × IsTextOf (L.files lib.new) file.now text × (plain_limit < length text) }
     ensures fault { IsErrOf result ReadFault.Fault → Rose (L.faults lib.old) (L.faults lib.new) }
     ensures same { StaysSame (L.files lib.old) (L.files lib.new) }
     ensures told { StaysTold (L.files lib.old) (L.files lib.new) file.now }
+    ensures later { L.faults lib.old ≤ L.faults lib.new }
 {
     let mut text = match read_all(alloc, lib, file, MOST) {
         Ok(text) => text,
@@ -140,16 +160,22 @@ fn check_file<L: Library, O: Sink, E: Sink>(
 ) -> u8
     ensures status { (result ≡ 0) ⊎ (result ≡ 1) ⊎ (result ≡ 3) ⊎ (result ≡ 4) ⊎ (result ≡ 5) }
     ensures accepted { result ≡ 0
-        → Ends (L.files lib.new) file.now Ending.Accepted (O.written out.old) (O.written out.new) (E.written err.old) (E.written err.new) }
+        → Ends (L.files lib.new) file.now Ending.Accepted (O.written out.old) (O.written out.new)
+        (E.written err.old) (E.written err.new) }
     ensures refused { result ≡ 1 → (ending : Ending) × (ending ≢ Ending.Accepted)
-        × Ends (L.files lib.new) file.now ending (O.written out.old) (O.written out.new) (E.written err.old) (E.written err.new) }
+        × Ends (L.files lib.new) file.now ending (O.written out.old) (O.written out.new)
+        (E.written err.old) (E.written err.new) }
     ensures read { result ≡ 3 → Rose (L.faults lib.old) (L.faults lib.new)
-        × Grew (O.written out.old) (O.written out.new) [] × Grew (E.written err.old) (E.written err.new) (read_fault_line file.now) }
-    ensures write { result ≡ 4 → Rose (O.faults out.old) (O.faults out.new) ⊎ Rose (E.faults err.old) (E.faults err.new) }
+        × Grew (O.written out.old) (O.written out.new) []
+        × Grew (E.written err.old) (E.written err.new) (read_fault_line file.now) }
+    ensures write { result ≡ 4
+        → Rose (O.faults out.old) (O.faults out.new) ⊎ Rose (E.faults err.old) (E.faults err.new) }
     ensures front { (result ≡ 4) ⊎ (result ≡ 5) → Grew (O.written out.old) (O.written out.new) []
         ⊎ Stops (L.files lib.new) file.now (O.written out.old) (O.written out.new) }
     ensures same { StaysSame (L.files lib.old) (L.files lib.new) }
     ensures told { StaysTold (L.files lib.old) (L.files lib.new) file.now }
+    ensures later { (L.faults lib.old ≤ L.faults lib.new) × (O.faults out.old ≤ O.faults out.new)
+        × (E.faults err.old ≤ E.faults err.new) }
 {
     match read_text(alloc, file, lib) {
         Ok(text) => check_text(alloc, file, &text, out, err),
@@ -168,11 +194,15 @@ fn check_text<O: Sink, E: Sink>(
 ) -> u8
     requires { length text.now ≤ plain_limit }
     ensures status { (result ≡ 0) ⊎ (result ≡ 1) ⊎ (result ≡ 4) ⊎ (result ≡ 5) }
-    ensures ended { (result ≡ 0) ⊎ (result ≡ 1) → (ending : Ending) × (result ≡ 0 → ending ≡ Ending.Accepted) × (result ≡ 1 → ending ≢ Ending.Accepted)
-        × IsReported text.now ending (O.written out.old) (O.written out.new) × Grew (E.written err.old) (E.written err.new) (error_line file.now ending) }
-    ensures write { result ≡ 4 → Rose (O.faults out.old) (O.faults out.new) ⊎ Rose (E.faults err.old) (E.faults err.new) }
+    ensures ended { (result ≡ 0) ⊎ (result ≡ 1) → (ending : Ending)
+        × (result ≡ 0 → ending ≡ Ending.Accepted) × (result ≡ 1 → ending ≢ Ending.Accepted)
+        × IsReported text.now ending (O.written out.old) (O.written out.new)
+        × Grew (E.written err.old) (E.written err.new) (error_line file.now ending) }
+    ensures write { result ≡ 4
+        → Rose (O.faults out.old) (O.faults out.new) ⊎ Rose (E.faults err.old) (E.faults err.new) }
     ensures front { (result ≡ 4) ⊎ (result ≡ 5) → Grew (O.written out.old) (O.written out.new) []
         ⊎ IsCutShort text.now (O.written out.old) (O.written out.new) }
+    ensures later { (O.faults out.old ≤ O.faults out.new) × (E.faults err.old ≤ E.faults err.new) }
 {
     match walk_text(alloc, text, out) {
         Ok(ending) => tell_ending(alloc, file, ending, err),

@@ -1,5 +1,4 @@
 pub mod Ascii
-pub mod TypePlaces
 pub mod TypePieces
 pub mod TermPieces
 pub mod OpenBinders

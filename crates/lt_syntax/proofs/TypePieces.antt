@@ -6,7 +6,7 @@ use Rattle.lt_definitions.specs.Types.{Chars, row}
 use Rattle.lt_definitions.specs.Printing.{printed_type, printed_types}
 use Rattle.lt_types.specs.Layout.{sizes, type_size}
 use Rattle.lt_syntax.specs.TypeText.{type_front, argument_rows}
-use Rattle.lt_syntax.proofs.TypePlaces.{type_at, tree_of, AreBelow, places_of, IsPlace}
+use Rattle.lt_types.proofs.TypePlaces.{type_at, tree_of, AreBelow, places_of, IsPlace}
 
 -- the arguments of a row and the bracket behind them
 abbrev pub row_text : List TyNode → List ℕ → Chars

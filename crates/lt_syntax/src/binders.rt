@@ -3,7 +3,7 @@ ghost use Rattle.std.specs.Prelude.{◌≡◌, ◌∷◌, [], length, drop, IfOk
 ghost use Rattle.lt_syntax.specs.Depths.{depth_of};
 
 use indexmap::IndexMap;
-use lt_types::{Memory, Name, TryCopy};
+use lt_hol::{Memory, Name, TryCopy};
 use std::alloc::Global;
 use std::marker::Model;
 

@@ -3,7 +3,7 @@ ghost use Rattle.std.specs.Prelude.{◌≡◌, ◌++◌, [], true, OnOk, string_
 ghost use Rattle.std.specs.Fmt.{decimal};
 ghost use Rattle.lt_syntax.specs.Signs.{are_ascii};
 
-use lt_types::{Memory, Name};
+use lt_hol::{Memory, Name};
 use std::alloc::Global;
 use std::marker::Model;
 

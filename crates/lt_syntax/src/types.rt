@@ -4,7 +4,7 @@ ghost use Rattle.lt_definitions.specs.Printing.{printed_type};
 ghost use Rattle.lt_syntax.specs.TypeText.{type_front, argument_rows, targets};
 
 use crate::text::Text;
-use lt_types::{Memory, Ty, TyNode};
+use lt_hol::{Memory, Ty, TyNode};
 use std::alloc::Global;
 
 /// A type as text: a variable behind a quote, a constructor alone, or in brackets with its arguments.

@@ -1,4 +1,4 @@
-//! A file system with one long file that fails from a place on, and a writer that takes a byte at a time.
+//! A file system with one long file that fails from a place on.
 ghost use Rattle.std.specs.Prelude.{IsErr};
 
 use super::LONG;
@@ -143,40 +143,5 @@ impl Files for ScriptedFiles {
 
     fn remove_dir_all<B: Allocator>(&self, _alloc: B, _path: &str) -> io::Result<()> {
         unsupported()
-    }
-}
-
-/// A writer that takes a byte at a time, and fails once it has as many as its room.
-#[derive(Drop)]
-pub(super) struct OneByteWriter {
-    pub(super) taken: Vec<u8>,
-    room: usize,
-}
-
-impl OneByteWriter {
-    pub(super) fn new(alloc: Global, room: usize) -> OneByteWriter {
-        OneByteWriter {
-            taken: Vec::new(alloc),
-            room,
-        }
-    }
-}
-
-impl Write for OneByteWriter {
-    fn write(&mut self, buf: &[u8]) -> io::Result<usize> {
-        let Some(byte) = buf.first() else {
-            return Ok(0);
-        };
-        if self.taken.len() >= self.room {
-            return Err(io::Error::from(ErrorKind::StorageFull));
-        }
-        match self.taken.push(*byte) {
-            Ok(()) => Ok(1),
-            Err(_) => Err(io::Error::from(ErrorKind::OutOfMemory)),
-        }
-    }
-
-    fn flush(&mut self) -> io::Result<()> {
-        Ok(())
     }
 }

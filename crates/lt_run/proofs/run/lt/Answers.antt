@@ -29,3 +29,6 @@ returns-clause-front g c = λ stopped.
 
 pub returns-clause-untouched : goal.returns-clause-untouched
 returns-clause-untouched g c = λ none. absurd (none c.file-item.result (words_are g c))
+
+pub returns-clause-other : goal.returns-clause-other
+returns-clause-other g c = λ none. absurd (none c.file-item.result (words_are g c))

@@ -72,5 +72,5 @@ items-preserved g c =
     let next = rw c.in-Some.is at c.in_ok-item.ensures in record {
       way = goes_on c.args.text.now c.items.reader c.in-Some.rest c.items.theory c.accepts.new.theory c.items.counts c.with-counts.result _ _ _ _ c.items.invariant.way next
           (λ ctx stands. rw c.if-not-branch.false at (c.in_ok-accepts.ensures ctx stands)) c.with-counts.ensures c.in_ok-report_item.ensures.all;
-      later = omega (arith, c.items.invariant.later, c.in_ok-report_item.ensures.later);
+      later = omega (arith, c.items.invariant.later, c.in_ok-report_item.ensures.cause.later);
     }

@@ -2,7 +2,7 @@ use Rattle.std.proofs.Common.{◌≡◌, ◌∙◌, ◌-◌, ◌++◌, ◌∷◌
 use Rattle.lt_definitions.specs.Types.{Chars}
 use Rattle.lt_definitions.specs.Printing.{printed_term}
 use Rattle.lt_terms.specs.Layout.{under, term_nodes}
-use Rattle.lt_terms.proofs.TermNodes.{length-term_nodes}
+use Rattle.lt_terms.proofs.LayoutLemmas.{length-term_nodes}
 use Rattle.lt_syntax.specs.declared.pieces.Piece.{Piece}
 use Rattle.lt_syntax.specs.declared.pieces.Piece.TheVariants.{Head, Argument, Bracket, End}
 use Rattle.lt_syntax.specs.TermText.{term_front, later_pieces, binders_within}

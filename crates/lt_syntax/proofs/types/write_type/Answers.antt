@@ -3,9 +3,9 @@ use Rattle.std.proofs.Math.Seq.{take-length}
 use Rattle.std.specs.Borrow.{Bor}
 use Rattle.lt_definitions.specs.Printing.{printed_type}
 use Rattle.lt_types.specs.Layout.{below, type_nodes}
-use Rattle.lt_types.proofs.Nodes.{length-type_nodes}
+use Rattle.lt_types.proofs.LayoutLemmas.{length-type_nodes}
 use Rattle.lt_syntax.specs.TypeText.{argument_rows, targets}
-use Rattle.lt_syntax.proofs.TypePlaces.{type_at, type_at-last, place}
+use Rattle.lt_types.proofs.TypePlaces.{type_at, type_at-last, place}
 use Rattle.lt_syntax.proofs.TypePieces.{IsWriting, starts, closes, closes-less, first-below, goes, goes-less}
 use Rattle.lt_syntax.proofs.types.write_type.Goals as goal
 
