@@ -37,7 +37,7 @@
 
 ;; A word is a command or a rule by its place alone: where an item or a line begins.
 (defconst lt-font-lock-keywords
-  `((,(concat "\\(?:^\\|[;}]\\)[ \t]*\\(plain\\|theory\\)[ \t]+[0-9]") 1 font-lock-preprocessor-face)
+  `(("\\(?:^\\|[;}]\\)[ \t]*\\(plain\\|theory\\)[ \t]+[0-9]" 1 font-lock-preprocessor-face)
     (,(concat "\\(?:^\\|[;}]\\)[ \t]*" (regexp-opt lt-commands t) "\\_>[ \t]+\\(\\w+\\)")
      (1 font-lock-keyword-face) (2 font-lock-function-name-face))
     (,(concat "\\(?:^\\|[;{]\\)[ \t]*" (regexp-opt lt-rules t) "\\_>") 1 font-lock-builtin-face)

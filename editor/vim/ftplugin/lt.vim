@@ -9,4 +9,5 @@ setlocal expandtab shiftwidth=2 softtabstop=2
 setlocal matchpairs=(:),[:],{:}
 compiler lt
 
-let b:undo_ftplugin = 'setlocal commentstring< comments< iskeyword< expandtab< shiftwidth< softtabstop< matchpairs< makeprg< errorformat<'
+let b:undo_ftplugin = 'setlocal commentstring< comments< iskeyword< expandtab< shiftwidth<'
+      \ . ' softtabstop< matchpairs< makeprg< errorformat<'

@@ -13,9 +13,14 @@ syntax match ltFree "\%((\s*\$\s*\)\@40<=\K\k*"
 syntax match ltBinder "\%((\s*\\\s*\)\@40<=\K\k*"
 
 " A word is a command or a rule by its place alone: where an item or a line begins.
-syntax match ltRule "\%(\%(^\|[;{]\)\s*\)\@40<=\%(assume\|weaken\|refl\|sym\|trans\|cong\|abs\|beta\|eta\|eqmp\|impI\|mp\|allI\|allE\|iff\|inst\|tinst\|select\|ccontr\|thm\)\>"
+syntax match ltRule "\%(\%(^\|[;{]\)\s*\)\@40<=\%(assume\|weaken\|refl\|sym
+      \\|trans\|cong\|abs\|beta\|eta\|eqmp\|impI\|mp\|allI\|allE\|iff\|inst\|tinst\|select
+      \\|ccontr\|thm\)\>"
 syntax match ltHeader "\%(\%(^\|[;}]\)\s*\)\@40<=\%(plain\|theory\)\ze\s\+\d"
-syntax match ltCommand "\%(\%(^\|[;}]\)\s*\)\@40<=\%(type\|const\|axiom\|def\|typedef\|lemma\|law\|corr\|relator\|property\|domain\|rule\|lifting\|lifting_typedef\|quotient_type\|lift\|parametric\|param_rule\|equiv\|implies\|carry\|abs_eq\|rep_eq\)\>" nextgroup=ltLabel skipwhite
+syntax match ltCommand "\%(\%(^\|[;}]\)\s*\)\@40<=\%(type\|const\|axiom\|def\|typedef
+      \\|lemma\|law\|corr\|relator\|property\|domain\|rule\|lifting\|lifting_typedef
+      \\|quotient_type\|lift\|parametric\|param_rule\|equiv\|implies\|carry
+      \\|abs_eq\|rep_eq\)\>" nextgroup=ltLabel skipwhite
 syntax match ltLabel "\<\K\k*\>" contained
 
 syntax match ltComment "#.*$" contains=@Spell
