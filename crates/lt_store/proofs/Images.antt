@@ -13,8 +13,8 @@ use Rattle.lt_store.specs.declared.change.Work.TheVariants.{Make, Find}
 use Rattle.lt_store.specs.Trees.{tree_at, Extends}
 use Rattle.lt_store.specs.Memos.{Memo, result_at}
 use Rattle.lt_store.specs.Passes.{image, type_image, occurs, change_step, sought_step, ChangeIsIn, WorkIsIn, number, IsResult, IsSound}
-use Rattle.lt_store.proofs.Trees.{tree_at-extends}
-use Rattle.lt_store.proofs.Memos.{Keeps, kept_back}
+use Rattle.lt_store.proofs.TreeLemmas.{tree_at-extends}
+use Rattle.lt_store.proofs.MemoLemmas.{Keeps, kept_back}
 
 one_more : (d : ℕ) → suc d ≡ d + 1
 one_more d = omega arith

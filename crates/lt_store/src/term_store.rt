@@ -14,7 +14,7 @@ use std::alloc::Global;
 /// An id stands for a term without binder names, which is one form of all alpha-equal terms.
 /// What an id stands for never changes. Each `mk_*` answers an id of what it was given, or want of memory;
 /// the nodes that were there stay either way.
-pub trait TermStore {
+pub trait TermStore: Drop {
     /// The nodes, each behind its children; the place of a node is its id.
     ghost nodes: { Self → List Node };
 

@@ -8,7 +8,7 @@ use Rattle.lt_nameless.proofs.Typings.{typed-has}
 use Rattle.lt_nameless.proofs.ClosedForms.{typed_is_whole}
 use Rattle.lt_store.specs.declared.node.Node.{Node}
 use Rattle.lt_store.specs.Trees.{tree_at, Extends}
-use Rattle.lt_store.proofs.Trees.{tree_at-extends}
+use Rattle.lt_store.proofs.TreeLemmas.{tree_at-extends}
 
 -- a typed term is whole
 pub whole_typed : (sig : Signature) (t : TermTree) (ty : TypeTree) → typed sig [] t ≡ Ok ty → IsWhole 0 (nameless [] t)

@@ -1,4 +1,4 @@
-use Rattle.lt_store.proofs.Trees.{tree_at-extends}
+use Rattle.lt_store.proofs.TreeLemmas.{tree_at-extends}
 use Rattle.lt_formulas.proofs.closing.mk_closed_equation.Goals as goal
 
 pub returns-clause-is : goal.returns-clause-is

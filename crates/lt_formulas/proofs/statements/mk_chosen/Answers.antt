@@ -1,4 +1,4 @@
-use Rattle.lt_store.proofs.Trees.{tree_at-extends}
+use Rattle.lt_store.proofs.TreeLemmas.{tree_at-extends}
 use Rattle.lt_formulas.proofs.statements.mk_chosen.Goals as goal
 
 pub returns-clause-is : goal.returns-clause-is

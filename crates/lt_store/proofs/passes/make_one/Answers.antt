@@ -1,6 +1,6 @@
 use Rattle.std.proofs.Common.{◌∙◌, ap}
 use Rattle.lt_store.specs.Passes.{image}
-use Rattle.lt_store.proofs.Trees.{tree_at-extends}
+use Rattle.lt_store.proofs.TreeLemmas.{tree_at-extends}
 use Rattle.lt_store.proofs.Images.{image-extends}
 use Rattle.lt_store.proofs.passes.make_one.Goals as goal
 

@@ -2,7 +2,7 @@ use Rattle.std.proofs.Common.{◌≡◌, [], ℕ, List, sym, subst, refl, length
 use Rattle.lt_nameless.specs.Nameless.{nameless}
 use Rattle.lt_store.specs.Trees.{AllBelow}
 use Rattle.lt_store.specs.Stacks.{stack}
-use Rattle.lt_store.proofs.Trees.{extends_same}
+use Rattle.lt_store.proofs.TreeLemmas.{extends_same}
 use Rattle.lt_store.proofs.Lists.{AllBelow-none}
 use Rattle.lt_store.proofs.StoredTerms.{Remains, remains_first, AllBelow-front}
 use Rattle.lt_store.proofs.storing.to_store.Goals as goal

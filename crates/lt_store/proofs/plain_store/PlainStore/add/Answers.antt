@@ -1,5 +1,5 @@
 use Rattle.std.proofs.Common.{◌≡◌, ◌++◌, ◌∷◌, [], length, rules}
-use Rattle.lt_store.proofs.Trees.{makes_push}
+use Rattle.lt_store.proofs.TreeLemmas.{makes_push}
 use Rattle.lt_store.proofs.plain_store.PlainStore.add.Goals as goal
 
 pub returns-clause-ok : goal.returns-clause-ok
