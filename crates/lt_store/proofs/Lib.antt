@@ -5,6 +5,7 @@ pub mod Comparisons
 pub mod Images
 pub mod TaskLemmas
 pub mod Lists
+pub mod LongestNames
 pub mod StoredTerms
 pub mod TypeNumberLemmas
 pub mod TypeTaskLemmas

@@ -1,9 +1,9 @@
-//! What a pass over a term does: it changes something, or looks for something.
+//! What a pass over a term does: it changes something, looks for something, or measures names.
 ghost use Rattle.std.specs.Prelude.{◌≡◌, ◌≤◌, IfOk};
 ghost use Rattle.lt_store.specs.Passes.{change_step, sought_step, step_of, type_image};
 
 use crate::node::Id;
-use lt_types::{Memory, Name, TryCopy, Ty, TyMap, tsub};
+use lt_hol::{Memory, Name, TryCopy, Ty, TyMap, tsub};
 use std::alloc::Global;
 
 /// What is put in place of what.
@@ -33,6 +33,8 @@ pub enum Sought<'a> {
 pub enum Work<'a> {
     Make(Change<'a>),
     Find(Sought<'a>),
+    /// The length of the longest name of a free variable.
+    Measure,
 }
 
 impl Work<'_> {
@@ -45,6 +47,7 @@ impl Work<'_> {
         match self {
             Work::Make(change) => change.step(),
             Work::Find(sought) => sought.step(),
+            Work::Measure => 0,
         }
     }
 }

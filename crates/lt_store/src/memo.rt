@@ -3,7 +3,7 @@ ghost use Rattle.std.specs.Prelude.{◌≡◌, ℕ, ◌==◌, ◌&&◌, Some, Is
 ghost use Rattle.lt_store.specs.Memos.{result_at};
 
 use crate::node::Id;
-use lt_types::Memory;
+use lt_hol::Memory;
 use std::collections::HashMap;
 
 /// Results by an id and a number beside it.

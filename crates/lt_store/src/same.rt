@@ -7,7 +7,7 @@ ghost use Rattle.lt_store.specs.Parts.{parts_of};
 
 use crate::memo::{Memo, keep, look};
 use crate::node::{Id, Node, View};
-use lt_types::{Memory, Ty, Tys};
+use lt_hol::{Memory, Ty, Tys};
 use std::alloc::Global;
 use std::collections::HashMap;
 

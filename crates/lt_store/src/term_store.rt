@@ -6,7 +6,7 @@ ghost use Rattle.lt_store.specs.Trees.{Extends, Makes, IsBelow, node_tree, tree_
 ghost use Rattle.lt_store.specs.Views.{node_of};
 
 use crate::node::{Id, View};
-use lt_types::{Memory, Name, Ty, Tys};
+use lt_hol::{Memory, Name, Ty, Tys};
 use std::alloc::Global;
 
 /// A store of terms, which are told by their ids.

@@ -7,8 +7,7 @@ ghost use Rattle.lt_hol.specs.Outcomes.{IsOutcome};
 ghost use Rattle.lt_hol.specs.TypeTables.{type_at, Extends};
 ghost use Rattle.lt_store.specs.TypeNumbers.{GivesType, Enters};
 
-use lt_hol::{Outcome, Signature, TypeFault, TypeTable, applied_types};
-use lt_types::{Name, Ty, Tys};
+use lt_hol::{Name, Outcome, Signature, Ty, TypeFault, TypeTable, Tys, applied_types};
 use std::alloc::Global;
 
 /// The number of a type where it is known, else what is wrong.

@@ -3,7 +3,7 @@ use lt_store::{
     Id, PlainStore, TermStore, View, abstract_free, has_free, has_loose, instantiate, replace_free,
     type_instance, type_instances,
 };
-use lt_types::{List, Memory, Name, TryCopy, Ty, TyMap};
+use lt_hol::{List, Memory, Name, TryCopy, Ty, TyMap};
 use std::alloc::Global;
 use std::process::Abort;
 use std::test::Fail;

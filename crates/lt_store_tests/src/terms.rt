@@ -4,9 +4,8 @@ ghost use Rattle.lt_nameless.specs.Nameless.{IsWhole};
 ghost use Rattle.lt_store.specs.Trees.{tree_at, Extends};
 
 use crate::stores::{bool_type, name};
-use lt_hol::{Signature, Term, TermNode, TypeFault};
+use lt_hol::{List, Memory, Name, Signature, Term, TermNode, TryCopy, Ty, TypeFault, Tys};
 use lt_store::{Id, PlainStore, TermStore, from_store, to_store, type_at};
-use lt_types::{List, Memory, Name, TryCopy, Ty, Tys};
 use std::alloc::Global;
 use std::process::Abort;
 use std::test::Fail;
