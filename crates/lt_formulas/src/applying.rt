@@ -25,10 +25,8 @@ pub fn mk_applied_equation<S: TermStore>(
     requires a { a < length (S.nodes store.old) }
     requires g { g < length (S.nodes store.old) }
     requires b { b < length (S.nodes store.old) }
-    ensures {
-        Builds (S.nodes store.old) (S.nodes store.new) result
-            (nameless_equation ty (nameless_application (tree_at (S.nodes store.old) f) (tree_at (S.nodes store.old) a)) (nameless_application (tree_at (S.nodes store.old) g) (tree_at (S.nodes store.old) b)))
-    }
+    ensures { Builds (S.nodes store.old) (S.nodes store.new) result
+        (nameless_equation ty (nameless_application (tree_at (S.nodes store.old) f) (tree_at (S.nodes store.old) a)) (nameless_application (tree_at (S.nodes store.old) g) (tree_at (S.nodes store.old) b))) }
 {
     let left = store.mk_app(alloc, f, a)?;
     let right = store.mk_app(alloc, g, b)?;
@@ -40,10 +38,8 @@ pub fn mk_applied_equation<S: TermStore>(
 pub fn mk_at<S: TermStore>(alloc: Global, store: &mut S, p: Id, t: Id) -> Result<Id, Memory>
     requires p { p < length (S.nodes store.old) }
     requires t { t < length (S.nodes store.old) }
-    ensures {
-        Builds (S.nodes store.old) (S.nodes store.new) result
-            (nameless_at (tree_at (S.nodes store.old) p) (tree_at (S.nodes store.old) t))
-    }
+    ensures { Builds (S.nodes store.old) (S.nodes store.new) result
+        (nameless_at (tree_at (S.nodes store.old) p) (tree_at (S.nodes store.old) t)) }
 {
     match body_of(store, p) {
         Some(body) => Ok(instantiate(alloc, store, body, t)?),

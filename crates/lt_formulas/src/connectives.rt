@@ -15,10 +15,8 @@ fn mk_binary<S: TermStore>(alloc: Global, store: &mut S, f: Id, a: Id, b: Id) ->
     requires f { f < length (S.nodes store.old) }
     requires a { a < length (S.nodes store.old) }
     requires b { b < length (S.nodes store.old) }
-    ensures {
-        Builds (S.nodes store.old) (S.nodes store.new) result
-            (nameless_application (nameless_application (tree_at (S.nodes store.old) f) (tree_at (S.nodes store.old) a)) (tree_at (S.nodes store.old) b))
-    }
+    ensures { Builds (S.nodes store.old) (S.nodes store.new) result
+        (nameless_application (nameless_application (tree_at (S.nodes store.old) f) (tree_at (S.nodes store.old) a)) (tree_at (S.nodes store.old) b)) }
 {
     let half = store.mk_app(alloc, f, a)?;
     let made = store.mk_app(alloc, half, b)?;
@@ -35,10 +33,8 @@ pub fn mk_equation<S: TermStore>(
 ) -> Result<Id, Memory>
     requires s { s < length (S.nodes store.old) }
     requires t { t < length (S.nodes store.old) }
-    ensures {
-        Builds (S.nodes store.old) (S.nodes store.new) result
-            (nameless_equation ty (tree_at (S.nodes store.old) s) (tree_at (S.nodes store.old) t))
-    }
+    ensures { Builds (S.nodes store.old) (S.nodes store.new) result
+        (nameless_equation ty (tree_at (S.nodes store.old) s) (tree_at (S.nodes store.old) t)) }
 {
     let eq = mk_eq(alloc, store, ty)?;
     let made = mk_binary(alloc, store, eq, s, t)?;
@@ -49,10 +45,8 @@ pub fn mk_equation<S: TermStore>(
 pub fn mk_implies<S: TermStore>(alloc: Global, store: &mut S, p: Id, q: Id) -> Result<Id, Memory>
     requires p { p < length (S.nodes store.old) }
     requires q { q < length (S.nodes store.old) }
-    ensures {
-        Builds (S.nodes store.old) (S.nodes store.new) result
-            (nameless_implies (tree_at (S.nodes store.old) p) (tree_at (S.nodes store.old) q))
-    }
+    ensures { Builds (S.nodes store.old) (S.nodes store.new) result
+        (nameless_implies (tree_at (S.nodes store.old) p) (tree_at (S.nodes store.old) q)) }
 {
     let imp = mk_imp(alloc, store)?;
     let made = mk_binary(alloc, store, imp, p, q)?;
@@ -62,10 +56,8 @@ pub fn mk_implies<S: TermStore>(alloc: Global, store: &mut S, p: Id, q: Id) -> R
 /// `all p`, where `p` is a predicate over a type.
 pub fn mk_for_all<S: TermStore>(alloc: Global, store: &mut S, ty: Ty, p: Id) -> Result<Id, Memory>
     requires { p < length (S.nodes store.old) }
-    ensures {
-        Builds (S.nodes store.old) (S.nodes store.new) result
-            (nameless_for_all ty (tree_at (S.nodes store.old) p))
-    }
+    ensures { Builds (S.nodes store.old) (S.nodes store.new) result
+        (nameless_for_all ty (tree_at (S.nodes store.old) p)) }
 {
     let all = mk_all(alloc, store, ty)?;
     let made = store.mk_app(alloc, all, p)?;

@@ -18,16 +18,9 @@ fn one_type(alloc: Global, ty: Ty) -> Result<Tys, Memory>
 }
 
 /// A constant with its type arguments, by its name.
-fn mk_word<S: TermStore>(
-    alloc: Global,
-    store: &mut S,
-    word: &str,
-    types: Tys,
-) -> Result<Id, Memory>
+fn mk_word<S: TermStore>(alloc: Global, store: &mut S, word: &str, types: Tys) -> Result<Id, Memory>
     requires { IsTrue (is_word word.now) }
-    ensures {
-        Builds (S.nodes store.old) (S.nodes store.new) result (nameless_constant word.now types)
-    }
+    ensures { Builds (S.nodes store.old) (S.nodes store.new) result (nameless_constant word.now types) }
 {
     let name = Name::word(alloc, word)?;
     let made = store.mk_const(alloc, name, types)?;
@@ -35,12 +28,15 @@ fn mk_word<S: TermStore>(
 }
 
 /// A constant at a type, by its name.
-fn mk_at<S: TermStore>(alloc: Global, store: &mut S, word: &str, ty: Ty) -> Result<Id, Memory>
+fn mk_constant_at<S: TermStore>(
+    alloc: Global,
+    store: &mut S,
+    word: &str,
+    ty: Ty,
+) -> Result<Id, Memory>
     requires { IsTrue (is_word word.now) }
-    ensures {
-        Builds (S.nodes store.old) (S.nodes store.new) result
-            (nameless_constant word.now (ty ∷ []))
-    }
+    ensures { Builds (S.nodes store.old) (S.nodes store.new) result
+        (nameless_constant word.now (ty ∷ [])) }
 {
     let types = one_type(alloc, ty)?;
     let made = mk_word(alloc, store, word, types)?;
@@ -49,39 +45,31 @@ fn mk_at<S: TermStore>(alloc: Global, store: &mut S, word: &str, ty: Ty) -> Resu
 
 /// The constant `imp`.
 pub(crate) fn mk_imp<S: TermStore>(alloc: Global, store: &mut S) -> Result<Id, Memory>
-    ensures {
-        Builds (S.nodes store.old) (S.nodes store.new) result (nameless_constant (codes "imp") [])
-    }
+    ensures { Builds (S.nodes store.old) (S.nodes store.new) result (nameless_constant (codes "imp") []) }
 {
     mk_word(alloc, store, "imp", List::new(alloc))
 }
 
 /// The constant `eq` at a type.
 pub(crate) fn mk_eq<S: TermStore>(alloc: Global, store: &mut S, ty: Ty) -> Result<Id, Memory>
-    ensures {
-        Builds (S.nodes store.old) (S.nodes store.new) result
-            (nameless_constant (codes "eq") (ty ∷ []))
-    }
+    ensures { Builds (S.nodes store.old) (S.nodes store.new) result
+        (nameless_constant (codes "eq") (ty ∷ [])) }
 {
-    mk_at(alloc, store, "eq", ty)
+    mk_constant_at(alloc, store, "eq", ty)
 }
 
 /// The constant `all` at a type.
 pub(crate) fn mk_all<S: TermStore>(alloc: Global, store: &mut S, ty: Ty) -> Result<Id, Memory>
-    ensures {
-        Builds (S.nodes store.old) (S.nodes store.new) result
-            (nameless_constant (codes "all") (ty ∷ []))
-    }
+    ensures { Builds (S.nodes store.old) (S.nodes store.new) result
+        (nameless_constant (codes "all") (ty ∷ [])) }
 {
-    mk_at(alloc, store, "all", ty)
+    mk_constant_at(alloc, store, "all", ty)
 }
 
 /// The constant `eps` at a type.
 pub(crate) fn mk_eps<S: TermStore>(alloc: Global, store: &mut S, ty: Ty) -> Result<Id, Memory>
-    ensures {
-        Builds (S.nodes store.old) (S.nodes store.new) result
-            (nameless_constant (codes "eps") (ty ∷ []))
-    }
+    ensures { Builds (S.nodes store.old) (S.nodes store.new) result
+        (nameless_constant (codes "eps") (ty ∷ [])) }
 {
-    mk_at(alloc, store, "eps", ty)
+    mk_constant_at(alloc, store, "eps", ty)
 }

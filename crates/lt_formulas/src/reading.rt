@@ -24,10 +24,8 @@ pub fn application<S: TermStore>(store: &S, t: Id) -> (Id, Id)
     requires form { is_application (tree_at (S.nodes store.now) t) ≡ true }
     ensures function { result.0 < length (S.nodes store.now) }
     ensures argument { result.1 < length (S.nodes store.now) }
-    ensures is {
-        tree_at (S.nodes store.now) t
-            ≡ nameless_application (tree_at (S.nodes store.now) result.0) (tree_at (S.nodes store.now) result.1)
-    }
+    ensures is { tree_at (S.nodes store.now) t
+        ≡ nameless_application (tree_at (S.nodes store.now) result.0) (tree_at (S.nodes store.now) result.1) }
 {
     match store.view(t) {
         View::App(function, argument) => (function, argument),
@@ -50,9 +48,7 @@ pub fn is_constant<S: TermStore>(store: &S, t: Id) -> bool
 pub fn constant<S: TermStore>(store: &S, t: Id) -> (&Name, &Tys)
     requires t { t < length (S.nodes store.now) }
     requires form { is_constant (tree_at (S.nodes store.now) t) ≡ true }
-    ensures {
-        tree_at (S.nodes store.now) t ≡ nameless_constant result.0.now result.1.now
-    }
+    ensures { tree_at (S.nodes store.now) t ≡ nameless_constant result.0.now result.1.now }
 {
     match store.view(t) {
         View::Const(name, types) => (name, types),

@@ -40,7 +40,7 @@ pub enum Work<'a> {
 impl Work<'_> {
     /// By how much the depth of a binder's body is greater: 0 where the depth doesn't matter,
     /// so that a shared node is worked on once.
-    pub fn step(self) -> usize
+    pub(crate) fn step(self) -> usize
         ensures step { result ≡ step_of self.entry }
         ensures most { result ≤ 1 }
     {
@@ -53,7 +53,7 @@ impl Work<'_> {
 }
 
 impl Sought<'_> {
-    pub fn step(self) -> usize
+    pub(crate) fn step(self) -> usize
         ensures step { result ≡ sought_step self.entry }
         ensures most { result ≤ 1 }
     {
@@ -65,7 +65,7 @@ impl Sought<'_> {
 }
 
 impl Change<'_> {
-    pub fn step(self) -> usize
+    pub(crate) fn step(self) -> usize
         ensures step { result ≡ change_step self.entry }
         ensures most { result ≤ 1 }
     {
@@ -76,7 +76,7 @@ impl Change<'_> {
     }
 
     /// What a type becomes.
-    pub fn ty(self, alloc: Global, ty: &Ty) -> Result<Ty, Memory>
+    pub(crate) fn ty(self, alloc: Global, ty: &Ty) -> Result<Ty, Memory>
         ensures { IfOk result (λ t. t ≡ type_image self.entry ty.now) }
     {
         match self {

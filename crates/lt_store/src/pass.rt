@@ -74,7 +74,7 @@ fn result_of<S: TermStore>(
 ///
 /// Each node is worked on once for each depth at which it lies, or once where the depth doesn't matter.
 /// What `memo` has from an earlier pass of the same work isn't worked on again.
-pub fn run<S: TermStore>(
+pub(crate) fn run<S: TermStore>(
     alloc: Global,
     store: &mut S,
     work: Work<'_>,

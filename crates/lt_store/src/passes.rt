@@ -23,10 +23,8 @@ fn make_one<S: TermStore>(
 ) -> Result<Id, Memory>
     requires root { root < length (S.nodes store.old) }
     requires change { ChangeIsIn (length (S.nodes store.old)) change }
-    ensures {
-        Builds (S.nodes store.old) (S.nodes store.new) result
-            (image (S.nodes store.old) change.entry 0 (tree_at (S.nodes store.old) root))
-    }
+    ensures { Builds (S.nodes store.old) (S.nodes store.new) result
+        (image (S.nodes store.old) change.entry 0 (tree_at (S.nodes store.old) root)) }
 {
     let mut memo = HashMap::new(alloc);
     let made = run(alloc, store, Work::Make(change), &mut memo, root)?;
@@ -42,10 +40,8 @@ fn make_each<S: TermStore>(
 ) -> Result<Ids, Memory>
     requires roots { AllBelow (length (S.nodes store.old)) roots.now }
     requires change { ChangeIsIn (length (S.nodes store.old)) change }
-    ensures {
-        BuildsEach (S.nodes store.old) (S.nodes store.new) result
-            (map (image (S.nodes store.old) change.entry 0) (trees (S.nodes store.old) roots.now))
-    }
+    ensures { BuildsEach (S.nodes store.old) (S.nodes store.new) result
+        (map (image (S.nodes store.old) change.entry 0) (trees (S.nodes store.old) roots.now)) }
 {
     let mut memo = HashMap::new(alloc);
     let mut made = List::new(alloc);
@@ -87,10 +83,8 @@ pub fn instantiate<S: TermStore>(
 ) -> Result<Id, Memory>
     requires body { body < length (S.nodes store.old) }
     requires by { by < length (S.nodes store.old) }
-    ensures {
-        Builds (S.nodes store.old) (S.nodes store.new) result
-            (instance_at 0 (tree_at (S.nodes store.old) by) (tree_at (S.nodes store.old) body))
-    }
+    ensures { Builds (S.nodes store.old) (S.nodes store.new) result
+        (instance_at 0 (tree_at (S.nodes store.old) by) (tree_at (S.nodes store.old) body)) }
 {
     make_one(alloc, store, Change::Open(by), body)
 }
@@ -105,10 +99,8 @@ pub fn abstract_free<S: TermStore>(
     ty: &Ty,
 ) -> Result<Id, Memory>
     requires { t < length (S.nodes store.old) }
-    ensures {
-        Builds (S.nodes store.old) (S.nodes store.new) result
-            (abstracted 0 name.now ty.now (tree_at (S.nodes store.old) t))
-    }
+    ensures { Builds (S.nodes store.old) (S.nodes store.new) result
+        (abstracted 0 name.now ty.now (tree_at (S.nodes store.old) t)) }
 {
     make_one(alloc, store, Change::Close(name, ty), t)
 }
@@ -121,10 +113,8 @@ pub fn type_instance<S: TermStore>(
     by: &TyMap,
 ) -> Result<Id, Memory>
     requires { t < length (S.nodes store.old) }
-    ensures {
-        Builds (S.nodes store.old) (S.nodes store.new) result
-            (nameless_instance by.now (tree_at (S.nodes store.old) t))
-    }
+    ensures { Builds (S.nodes store.old) (S.nodes store.new) result
+        (nameless_instance by.now (tree_at (S.nodes store.old) t)) }
 {
     make_one(alloc, store, Change::Types(by), t)
 }
@@ -137,10 +127,8 @@ pub fn type_instances<S: TermStore>(
     by: &TyMap,
 ) -> Result<Ids, Memory>
     requires { AllBelow (length (S.nodes store.old)) ts.now }
-    ensures {
-        BuildsEach (S.nodes store.old) (S.nodes store.new) result
-            (map (nameless_instance by.now) (trees (S.nodes store.old) ts.now))
-    }
+    ensures { BuildsEach (S.nodes store.old) (S.nodes store.new) result
+        (map (nameless_instance by.now) (trees (S.nodes store.old) ts.now)) }
 {
     make_each(alloc, store, Change::Types(by), ts)
 }
@@ -156,10 +144,8 @@ pub fn replace_free<S: TermStore>(
 ) -> Result<Ids, Memory>
     requires ts { AllBelow (length (S.nodes store.old)) ts.now }
     requires by { by < length (S.nodes store.old) }
-    ensures {
-        BuildsEach (S.nodes store.old) (S.nodes store.new) result
-            (map (nameless_replaced name.now ty.now (tree_at (S.nodes store.old) by)) (trees (S.nodes store.old) ts.now))
-    }
+    ensures { BuildsEach (S.nodes store.old) (S.nodes store.new) result
+        (map (nameless_replaced name.now ty.now (tree_at (S.nodes store.old) by)) (trees (S.nodes store.old) ts.now)) }
 {
     make_each(alloc, store, Change::Replace(name, ty, by), ts)
 }
@@ -192,11 +178,7 @@ pub fn has_loose<S: TermStore>(alloc: Global, store: &mut S, t: Id) -> Result<bo
 /// The length of the longest name of a free variable in some terms, 0 where there is none.
 ///
 /// A name that is longer is that of no free variable in them.
-pub fn longest_free<S: TermStore>(
-    alloc: Global,
-    store: &mut S,
-    ts: &[Id],
-) -> Result<usize, Memory>
+pub fn longest_free<S: TermStore>(alloc: Global, store: &mut S, ts: &[Id]) -> Result<usize, Memory>
     requires { AllBelow (length (S.nodes store.old)) ts.now }
     ensures kept { Extends (S.nodes store.old) (S.nodes store.new) }
     ensures is { IfOk result (λ n. n ≡ longest_free_of (trees (S.nodes store.old) ts.now)) }

@@ -167,7 +167,7 @@ impl TypeWork {
     }
 
     /// Does one task.
-    pub fn turn<S: TermStore>(
+    pub(crate) fn turn<S: TermStore>(
         &mut self,
         alloc: Global,
         store: &S,
