@@ -3,7 +3,7 @@ ghost use Rattle.std.specs.Prelude.{◌≡◌, ◌<◌, ◌↔◌, [], ◌∷◌
 ghost use Rattle.std.specs.Option.{option_map};
 ghost use Rattle.lt_definitions.specs.Types.{fun};
 ghost use Rattle.lt_types.specs.Layout.{HasRoom, grow};
-ghost use Rattle.lt_hol.specs.TypeTables.{type_at, types_at, made_of, all_below, is_below, Extends, function_parts, node_parts, both};
+ghost use Rattle.lt_hol.specs.TypeTables.{type_at, types_at, made_of, all_below, is_below, Extends, ExtendsBy, IsApart, function_parts, node_parts, both};
 
 use indexmap::IndexSet;
 use lt_types::{List, Memory, Name, TryCopy, Ty, TyNode};
@@ -13,6 +13,7 @@ use std::marker::Model;
 /// Distinct types, which contracts see as a list. A type's number is its place in the list.
 ///
 /// Two types of one table are equal exactly where their numbers are.
+/// A call that wants memory may leave types behind that it made on the way; those that were there stay.
 #[derive(Debug, Drop)]
 pub struct TypeTable {
     nodes: IndexSet<TyNode>,
@@ -47,9 +48,10 @@ impl TypeTable {
         })
     }
 
-    /// How many types there are.
+    /// How many types there are. No type has two numbers.
     pub fn len(&self) -> usize
-        ensures { result ≡ length self.now }
+        ensures len { result ≡ length self.now }
+        ensures apart { IsApart self.now }
     {
         self.nodes.len()
     }
@@ -68,6 +70,7 @@ impl TypeTable {
         requires { is_below (length self.old) node ≡ true }
         ensures ok { IfOk result (λ id. slice_get self.new id ≡ Some (made_of self.old node)) }
         ensures grows { Extends self.old self.new }
+        ensures added { IfOk result (λ _. ExtendsBy (made_of self.old node ∷ []) self.old self.new) }
     {
         let (id, _) = self.nodes.insert_full(node)?;
         Ok(id)
@@ -77,7 +80,8 @@ impl TypeTable {
     pub fn same(&self, a: usize, b: usize) -> bool
         requires a { a < length self.now }
         requires b { b < length self.now }
-        ensures { IsTrue result ↔ (type_at self.now a ≡ type_at self.now b) }
+        ensures types { IsTrue result ↔ (type_at self.now a ≡ type_at self.now b) }
+        ensures numbers { IsTrue result ↔ (a ≡ b) }
     {
         let _ = &self.nodes;
         a == b
@@ -89,6 +93,7 @@ impl TypeTable {
         requires to { to < length self.old }
         ensures ok { IfOk result (λ id. slice_get self.new id ≡ Some (fun (type_at self.old from) (type_at self.old to))) }
         ensures grows { Extends self.old self.new }
+        ensures added { IfOk result (λ _. ExtendsBy (fun (type_at self.old from) (type_at self.old to) ∷ []) self.old self.new) }
     {
         let name = self.fun.copy(alloc)?;
         let args = List::from_vec(vec![in alloc; from, to]?);
@@ -116,6 +121,7 @@ impl TypeTable {
         ensures types { IfOk result (λ v. types_at self.new v.items ≡ grow (types_at self.old numbers.items) node.now) }
         ensures below { IfOk result (λ v. all_below (length self.new) v.items ≡ true) }
         ensures grows { Extends self.old self.new }
+        ensures added { IfOk result (λ v. ExtendsBy (types_at self.new v.items) self.old self.new) }
     {
         let mut numbers = numbers;
         match node {
@@ -137,6 +143,7 @@ impl TypeTable {
     pub fn intern(&mut self, alloc: Global, ty: &Ty) -> Result<usize, Memory>
         ensures ok { IfOk result (λ id. slice_get self.new id ≡ Some ty.now) }
         ensures grows { Extends self.old self.new }
+        ensures added { IfOk result (λ _. ExtendsBy (ty.now ∷ []) self.old self.new) }
     {
         let mut numbers = Vec::new(alloc);
         for node in ty.nodes() {
