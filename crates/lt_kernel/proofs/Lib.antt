@@ -1,5 +1,7 @@
-pub mod Numbers
-pub mod OtherOutcomes
+pub mod LineNumbers
 pub mod Outcomes
+pub mod OtherOutcomes
 pub mod NamedIds
-pub mod States
+pub mod StateLemmas
+pub mod GrowingLemmas
+pub mod ReachingLemmas

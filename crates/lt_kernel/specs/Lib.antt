@@ -2,3 +2,5 @@ pub mod Reasons
 pub mod Sequents
 pub mod Lines
 pub mod State
+pub mod Growing
+pub mod Reaching

@@ -1,7 +1,8 @@
 -- What contracts see of a proof, and what its calls answer.
-use Rattle.std.specs.Prelude.{◌≡◌, ℕ, List, [], ◌∷◌, ◌++◌, length, is_some, true, None, Result, Ok, Err}
+use Rattle.std.specs.Prelude.{◌≡◌, ℕ, List, [], ◌∷◌, ◌++◌, length, is_some, true, Some, None, Result, Ok, Err}
 use Rattle.lt_definitions.specs.Types.{Chars, found}
 use Rattle.lt_definitions.specs.Typing.{Signature}
+use Rattle.lt_definitions.specs.Rules.{line_at}
 use Rattle.lt_nameless.specs.Nameless.{Nameless, NamelessSequent}
 use Rattle.lt_nameless.specs.NamelessRules.{NamelessOutcome, nameless_step}
 use Rattle.lt_hol.specs.declared.line.Line.{Line}
@@ -55,6 +56,7 @@ pub record AddsLine (old new : State) (by : Line) (outcome : NamelessOutcome) (n
   pub steps : new.steps ≡ old.steps ++ step ∷ []
   pub sequents : sequents new ≡ sequents old ++ sequent_at new.nodes step.sequent ∷ []
   pub number : n ≡ length new.steps
+  pub there : line_at (sequents new) n ≡ Some (sequent_at new.nodes step.sequent)
 
 -- The line was added with what its rule gives, or its rule gives nothing, for the first reason that is answered, and all stays.
 abbrev pub Answers : State → State → Line → Result ℕ RuleFault → NamelessOutcome → Type 0

@@ -7,6 +7,7 @@ ghost use Rattle.lt_nameless.specs.NamelessRules.{nameless_fault, nameless_assum
 ghost use Rattle.lt_hol.specs.declared.line.Line.TheVariants as line;
 ghost use Rattle.lt_store.specs.Trees.{tree_at};
 ghost use Rattle.lt_kernel.specs.State.{sequents, statements, Answers};
+ghost use Rattle.lt_kernel.specs.Growing.{Carries};
 
 use crate::proof::Proof;
 use crate::rule_fault::RuleFault;
@@ -19,7 +20,8 @@ impl<S: TermStore + Drop> Proof<S> {
     pub fn assume(&mut self, alloc: Global, p: Id) -> Result<usize, RuleFault>
         requires p { p < length self.old.nodes }
         requires typed { nameless_fault self.old.signature (tree_at self.old.nodes p) ≡ None }
-        ensures { Answers self.old self.new (line.Assume p) result (nameless_assume_gives self.old.signature (tree_at self.old.nodes p)) }
+        ensures answers { Answers self.old self.new (line.Assume p) result (nameless_assume_gives self.old.signature (tree_at self.old.nodes p)) }
+        ensures carries { Carries self.old self.new }
     {
         self.apply(alloc, &Line::Assume(p))
     }
@@ -28,7 +30,8 @@ impl<S: TermStore + Drop> Proof<S> {
     pub fn weaken(&mut self, alloc: Global, p: Id, i: usize) -> Result<usize, RuleFault>
         requires p { p < length self.old.nodes }
         requires typed { nameless_fault self.old.signature (tree_at self.old.nodes p) ≡ None }
-        ensures { Answers self.old self.new (line.Weaken p i) result (nameless_weaken_gives self.old.signature (sequents self.old) (tree_at self.old.nodes p) i) }
+        ensures answers { Answers self.old self.new (line.Weaken p i) result (nameless_weaken_gives self.old.signature (sequents self.old) (tree_at self.old.nodes p) i) }
+        ensures carries { Carries self.old self.new }
     {
         self.apply(alloc, &Line::Weaken(p, i))
     }
@@ -37,28 +40,32 @@ impl<S: TermStore + Drop> Proof<S> {
     pub fn refl(&mut self, alloc: Global, t: Id) -> Result<usize, RuleFault>
         requires t { t < length self.old.nodes }
         requires typed { nameless_fault self.old.signature (tree_at self.old.nodes t) ≡ None }
-        ensures { Answers self.old self.new (line.Refl t) result (nameless_refl_gives self.old.signature (tree_at self.old.nodes t)) }
+        ensures answers { Answers self.old self.new (line.Refl t) result (nameless_refl_gives self.old.signature (tree_at self.old.nodes t)) }
+        ensures carries { Carries self.old self.new }
     {
         self.apply(alloc, &Line::Refl(t))
     }
 
     /// From `H |- s = t`: `H |- t = s`. `MissingLine`, `NotEquation`.
     pub fn sym(&mut self, alloc: Global, i: usize) -> Result<usize, RuleFault>
-        ensures { Answers self.old self.new (line.Sym i) result (nameless_sym_gives (sequents self.old) i) }
+        ensures answers { Answers self.old self.new (line.Sym i) result (nameless_sym_gives (sequents self.old) i) }
+        ensures carries { Carries self.old self.new }
     {
         self.apply(alloc, &Line::Sym(i))
     }
 
     /// From `H |- r = s` and `K |- s = t`: `H, K |- r = t`. `MissingLine`, `NotEquation`, `MiddleDiffers`.
     pub fn trans(&mut self, alloc: Global, i: usize, j: usize) -> Result<usize, RuleFault>
-        ensures { Answers self.old self.new (line.Trans i j) result (nameless_trans_gives (sequents self.old) i j) }
+        ensures answers { Answers self.old self.new (line.Trans i j) result (nameless_trans_gives (sequents self.old) i j) }
+        ensures carries { Carries self.old self.new }
     {
         self.apply(alloc, &Line::Trans(i, j))
     }
 
     /// From `H |- f = g` and `K |- a = b`: `H, K |- f a = g b`. `MissingLine`, `NotEquation`, `TypeDiffers`.
     pub fn cong(&mut self, alloc: Global, i: usize, j: usize) -> Result<usize, RuleFault>
-        ensures { Answers self.old self.new (line.Cong i j) result (nameless_cong_gives (sequents self.old) i j) }
+        ensures answers { Answers self.old self.new (line.Cong i j) result (nameless_cong_gives (sequents self.old) i j) }
+        ensures carries { Carries self.old self.new }
     {
         self.apply(alloc, &Line::Cong(i, j))
     }
@@ -66,7 +73,8 @@ impl<S: TermStore + Drop> Proof<S> {
     /// From `H |- s = t`: `H |- (\x. s) = (\x. t)`. `MissingLine`, `NotEquation`, `VariableInHypothesis`.
     pub fn abs(&mut self, alloc: Global, x: Name, ty: Ty, i: usize) -> Result<usize, RuleFault>
         requires { type_fault self.old.signature ty ≡ None }
-        ensures { Answers self.old self.new (line.Abs x ty i) result (nameless_abs_gives (sequents self.old) x ty i) }
+        ensures answers { Answers self.old self.new (line.Abs x ty i) result (nameless_abs_gives (sequents self.old) x ty i) }
+        ensures carries { Carries self.old self.new }
     {
         self.apply(alloc, &Line::Abs(x, ty, i))
     }
@@ -75,7 +83,8 @@ impl<S: TermStore + Drop> Proof<S> {
     pub fn beta(&mut self, alloc: Global, t: Id) -> Result<usize, RuleFault>
         requires t { t < length self.old.nodes }
         requires typed { nameless_fault self.old.signature (tree_at self.old.nodes t) ≡ None }
-        ensures { Answers self.old self.new (line.Beta t) result (nameless_beta_gives self.old.signature (tree_at self.old.nodes t)) }
+        ensures answers { Answers self.old self.new (line.Beta t) result (nameless_beta_gives self.old.signature (tree_at self.old.nodes t)) }
+        ensures carries { Carries self.old self.new }
     {
         self.apply(alloc, &Line::Beta(t))
     }
@@ -84,14 +93,16 @@ impl<S: TermStore + Drop> Proof<S> {
     pub fn eta(&mut self, alloc: Global, t: Id) -> Result<usize, RuleFault>
         requires t { t < length self.old.nodes }
         requires typed { nameless_fault self.old.signature (tree_at self.old.nodes t) ≡ None }
-        ensures { Answers self.old self.new (line.Eta t) result (nameless_eta_gives self.old.signature (tree_at self.old.nodes t)) }
+        ensures answers { Answers self.old self.new (line.Eta t) result (nameless_eta_gives self.old.signature (tree_at self.old.nodes t)) }
+        ensures carries { Carries self.old self.new }
     {
         self.apply(alloc, &Line::Eta(t))
     }
 
     /// From `H |- p = q` and `K |- p`: `H, K |- q`. `MissingLine`, `NotEquation`, `MiddleDiffers`.
     pub fn eqmp(&mut self, alloc: Global, i: usize, j: usize) -> Result<usize, RuleFault>
-        ensures { Answers self.old self.new (line.Eqmp i j) result (nameless_eqmp_gives (sequents self.old) i j) }
+        ensures answers { Answers self.old self.new (line.Eqmp i j) result (nameless_eqmp_gives (sequents self.old) i j) }
+        ensures carries { Carries self.old self.new }
     {
         self.apply(alloc, &Line::Eqmp(i, j))
     }
@@ -100,14 +111,16 @@ impl<S: TermStore + Drop> Proof<S> {
     pub fn impI(&mut self, alloc: Global, p: Id, i: usize) -> Result<usize, RuleFault>
         requires p { p < length self.old.nodes }
         requires typed { nameless_fault self.old.signature (tree_at self.old.nodes p) ≡ None }
-        ensures { Answers self.old self.new (line.ImpI p i) result (nameless_impI_gives self.old.signature (sequents self.old) (tree_at self.old.nodes p) i) }
+        ensures answers { Answers self.old self.new (line.ImpI p i) result (nameless_impI_gives self.old.signature (sequents self.old) (tree_at self.old.nodes p) i) }
+        ensures carries { Carries self.old self.new }
     {
         self.apply(alloc, &Line::ImpI(p, i))
     }
 
     /// From `H |- p --> q` and `K |- p`: `H, K |- q`. `MissingLine`, `NotImplication`, `MiddleDiffers`.
     pub fn mp(&mut self, alloc: Global, i: usize, j: usize) -> Result<usize, RuleFault>
-        ensures { Answers self.old self.new (line.Mp i j) result (nameless_mp_gives (sequents self.old) i j) }
+        ensures answers { Answers self.old self.new (line.Mp i j) result (nameless_mp_gives (sequents self.old) i j) }
+        ensures carries { Carries self.old self.new }
     {
         self.apply(alloc, &Line::Mp(i, j))
     }
@@ -115,7 +128,8 @@ impl<S: TermStore + Drop> Proof<S> {
     /// From `H |- p`: `H |- all x. p`. `MissingLine`, `VariableInHypothesis`.
     pub fn allI(&mut self, alloc: Global, x: Name, ty: Ty, i: usize) -> Result<usize, RuleFault>
         requires { type_fault self.old.signature ty ≡ None }
-        ensures { Answers self.old self.new (line.AllI x ty i) result (nameless_allI_gives (sequents self.old) x ty i) }
+        ensures answers { Answers self.old self.new (line.AllI x ty i) result (nameless_allI_gives (sequents self.old) x ty i) }
+        ensures carries { Carries self.old self.new }
     {
         self.apply(alloc, &Line::AllI(x, ty, i))
     }
@@ -124,14 +138,16 @@ impl<S: TermStore + Drop> Proof<S> {
     pub fn allE(&mut self, alloc: Global, t: Id, i: usize) -> Result<usize, RuleFault>
         requires t { t < length self.old.nodes }
         requires typed { nameless_fault self.old.signature (tree_at self.old.nodes t) ≡ None }
-        ensures { Answers self.old self.new (line.AllE t i) result (nameless_allE_gives self.old.signature (sequents self.old) (tree_at self.old.nodes t) i) }
+        ensures answers { Answers self.old self.new (line.AllE t i) result (nameless_allE_gives self.old.signature (sequents self.old) (tree_at self.old.nodes t) i) }
+        ensures carries { Carries self.old self.new }
     {
         self.apply(alloc, &Line::AllE(t, i))
     }
 
     /// From `H |- p --> q` and `K |- q --> p`: `H, K |- p = q`. `MissingLine`, `NotImplication`, `MiddleDiffers`.
     pub fn iff(&mut self, alloc: Global, i: usize, j: usize) -> Result<usize, RuleFault>
-        ensures { Answers self.old self.new (line.Iff i j) result (nameless_iff_gives (sequents self.old) i j) }
+        ensures answers { Answers self.old self.new (line.Iff i j) result (nameless_iff_gives (sequents self.old) i j) }
+        ensures carries { Carries self.old self.new }
     {
         self.apply(alloc, &Line::Iff(i, j))
     }
@@ -148,7 +164,8 @@ impl<S: TermStore + Drop> Proof<S> {
         requires ty { type_fault self.old.signature ty ≡ None }
         requires t { t < length self.old.nodes }
         requires typed { nameless_fault self.old.signature (tree_at self.old.nodes t) ≡ None }
-        ensures { Answers self.old self.new (line.Inst x ty t i) result (nameless_inst_gives self.old.signature (sequents self.old) x ty (tree_at self.old.nodes t) i) }
+        ensures answers { Answers self.old self.new (line.Inst x ty t i) result (nameless_inst_gives self.old.signature (sequents self.old) x ty (tree_at self.old.nodes t) i) }
+        ensures carries { Carries self.old self.new }
     {
         self.apply(alloc, &Line::Inst(x, ty, t, i))
     }
@@ -156,7 +173,8 @@ impl<S: TermStore + Drop> Proof<S> {
     /// From `H |- p`: the type variable replaced by the type in both. `MissingLine`.
     pub fn tinst(&mut self, alloc: Global, a: Name, ty: Ty, i: usize) -> Result<usize, RuleFault>
         requires { type_fault self.old.signature ty ≡ None }
-        ensures { Answers self.old self.new (line.Tinst a ty i) result (nameless_tinst_gives (sequents self.old) a ty i) }
+        ensures answers { Answers self.old self.new (line.Tinst a ty i) result (nameless_tinst_gives (sequents self.old) a ty i) }
+        ensures carries { Carries self.old self.new }
     {
         self.apply(alloc, &Line::Tinst(a, ty, i))
     }
@@ -165,7 +183,8 @@ impl<S: TermStore + Drop> Proof<S> {
     pub fn select(&mut self, alloc: Global, p: Id) -> Result<usize, RuleFault>
         requires p { p < length self.old.nodes }
         requires typed { nameless_fault self.old.signature (tree_at self.old.nodes p) ≡ None }
-        ensures { Answers self.old self.new (line.Select p) result (nameless_select_gives self.old.signature (tree_at self.old.nodes p)) }
+        ensures answers { Answers self.old self.new (line.Select p) result (nameless_select_gives self.old.signature (tree_at self.old.nodes p)) }
+        ensures carries { Carries self.old self.new }
     {
         self.apply(alloc, &Line::Select(p))
     }
@@ -174,14 +193,16 @@ impl<S: TermStore + Drop> Proof<S> {
     pub fn ccontr(&mut self, alloc: Global, p: Id) -> Result<usize, RuleFault>
         requires p { p < length self.old.nodes }
         requires typed { nameless_fault self.old.signature (tree_at self.old.nodes p) ≡ None }
-        ensures { Answers self.old self.new (line.Ccontr p) result (nameless_ccontr_gives self.old.signature (tree_at self.old.nodes p)) }
+        ensures answers { Answers self.old self.new (line.Ccontr p) result (nameless_ccontr_gives self.old.signature (tree_at self.old.nodes p)) }
+        ensures carries { Carries self.old self.new }
     {
         self.apply(alloc, &Line::Ccontr(p))
     }
 
     /// `|-` the statement of the label. `UnknownLabel`.
     pub fn thm(&mut self, alloc: Global, label: Name) -> Result<usize, RuleFault>
-        ensures { Answers self.old self.new (line.Thm label) result (nameless_thm_gives (statements self.old) label) }
+        ensures answers { Answers self.old self.new (line.Thm label) result (nameless_thm_gives (statements self.old) label) }
+        ensures carries { Carries self.old self.new }
     {
         self.apply(alloc, &Line::Thm(label))
     }

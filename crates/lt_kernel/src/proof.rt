@@ -1,5 +1,5 @@
 //! What a theory has declared and stated, and the lines of a derivation, over a store of terms.
-ghost use Rattle.std.specs.Prelude.{◌≡◌, ◌<◌, [], ◌∷◌, ◌++◌, length, take, is_some, None, IfOk, IfSome, OnOk, OnErr};
+ghost use Rattle.std.specs.Prelude.{◌≡◌, ◌<◌, [], ◌∷◌, ◌++◌, length, take, is_some, true, Some, None, IfOk, IfSome, OnOk, OnErr};
 ghost use Rattle.std.specs.Option.{option_copied, option_map};
 ghost use Rattle.lt_definitions.specs.Types.{found};
 ghost use Rattle.lt_definitions.specs.Rules.{line_at};
@@ -8,7 +8,8 @@ ghost use Rattle.lt_hol.specs.Faults.{DeclaresType, DeclaresConst, cut};
 ghost use Rattle.lt_store.specs.Trees.{tree_at};
 ghost use Rattle.lt_kernel.specs.Lines.{IsGoodLine};
 ghost use Rattle.lt_kernel.specs.Sequents.{IsWithin};
-ghost use Rattle.lt_kernel.specs.State.{step_of, Answers, Keeps, Names};
+ghost use Rattle.lt_kernel.specs.State.{sequents, step_of, Answers, Keeps, Names};
+ghost use Rattle.lt_kernel.specs.Growing.{Carries};
 
 use crate::derive::derive;
 use crate::rule_fault::RuleFault;
@@ -92,7 +93,8 @@ impl<S: TermStore + Drop> Proof<S> {
     /// `Bad` where the rule gives none, with the first reason. What was there stays, also after a refusal.
     pub fn apply(&mut self, alloc: Global, line: &Line) -> Result<usize, RuleFault>
         requires { IsGoodLine self.old.signature self.old.nodes line.now }
-        ensures { Answers self.old self.new line.now result (step_of self.old line.now) }
+        ensures answers { Answers self.old self.new line.now result (step_of self.old line.now) }
+        ensures carries { Carries self.old self.new }
     {
         let sequent = match derive(
             alloc,
@@ -130,6 +132,28 @@ impl<S: TermStore + Drop> Proof<S> {
         }
     }
 
+    /// Whether there is a line with the number.
+    pub fn is_line(&self, number: usize) -> bool
+        ensures { result ≡ is_some (line_at (sequents self.now) number) }
+    {
+        match self.sequent(number) {
+            Some(_) => true,
+            None => false,
+        }
+    }
+
+    /// The conclusion of a line; `is_line` is the test.
+    pub fn conclusion(&self, number: usize) -> Id
+        requires { is_some (line_at (sequents self.now) number) ≡ true }
+        ensures within { result < length self.now.nodes }
+        ensures is { option_map (λ s. s.concl) (line_at (sequents self.now) number) ≡ Some (tree_at self.now.nodes result) }
+    {
+        match self.sequent(number) {
+            Some(sequent) => sequent.concl,
+            None => unreachable!(),
+        }
+    }
+
     /// The store of the terms.
     pub fn store(&self) -> &S
         ensures { S.nodes result.now ≡ self.now.nodes }
@@ -140,7 +164,8 @@ impl<S: TermStore + Drop> Proof<S> {
     /// Puts a term into the store. What is declared, the named statements and the lines stay.
     pub fn add_term(&mut self, alloc: Global, t: &Term) -> Result<Id, Memory>
         requires { IsWhole 0 (nameless [] t.now) }
-        ensures kept { Keeps self.old self.new }
+        ensures keeps { Keeps self.old self.new }
+        ensures carries { Carries self.old self.new }
         ensures made { IfOk result (λ r. r < length self.new.nodes) }
         ensures is { IfOk result (λ r. tree_at self.new.nodes r ≡ nameless [] t.now) }
     {
