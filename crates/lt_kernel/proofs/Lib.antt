@@ -1,6 +1,5 @@
 pub mod LineNumbers
 pub mod Outcomes
-pub mod OtherOutcomes
 pub mod NamedIds
 pub mod StateLemmas
 pub mod GrowingLemmas

@@ -53,10 +53,10 @@ pub record AddsLine (old new : State) (by : Line) (outcome : NamelessOutcome) (n
   pub step : Step
   pub line : step.line ≡ by
   pub gives : outcome ≡ Ok (sequent_at new.nodes step.sequent)
+  pub there : line_at (sequents new) n ≡ Some (sequent_at new.nodes step.sequent)
   pub steps : new.steps ≡ old.steps ++ step ∷ []
   pub sequents : sequents new ≡ sequents old ++ sequent_at new.nodes step.sequent ∷ []
   pub number : n ≡ length new.steps
-  pub there : line_at (sequents new) n ≡ Some (sequent_at new.nodes step.sequent)
 
 -- The line was added with what its rule gives, or its rule gives nothing, for the first reason that is answered, and all stays.
 abbrev pub Answers : State → State → Line → Result ℕ RuleFault → NamelessOutcome → Type 0

@@ -4,15 +4,16 @@ ghost use Rattle.lt_nameless.specs.NamelessRules.{nameless_fault, nameless_selec
 ghost use Rattle.lt_store.specs.Trees.{tree_at, Extends};
 ghost use Rattle.lt_kernel.specs.Sequents.{Gives};
 
+use crate::premises::check_boolean;
 use crate::rule_fault::RuleFault;
 use crate::sequent::Sequent;
-use lt_formulas::{is_boolean, mk_double_negation, mk_selection, predicate_over, type_of};
-use lt_hol::{Ids, Reason, Signature};
+use lt_formulas::{mk_double_negation, mk_selection, predicate_over, type_of};
+use lt_hol::{Reason, Signature};
 use lt_store::{Id, TermStore};
 use std::alloc::Global;
 
 /// `|- all x. p x --> p (eps p)`
-pub fn select<S: TermStore>(
+pub(crate) fn select<S: TermStore>(
     alloc: Global,
     store: &mut S,
     sig: &Signature,
@@ -28,14 +29,11 @@ pub fn select<S: TermStore>(
         return Err(RuleFault::Bad(Reason::TypeDiffers));
     };
     let concl = mk_selection(alloc, store, ty, p)?;
-    Ok(Sequent {
-        hyps: Ids::new(alloc),
-        concl,
-    })
+    Ok(Sequent::without_hyps(alloc, concl))
 }
 
 /// `|- ((p --> F) --> F) --> p`
-pub fn ccontr<S: TermStore>(
+pub(crate) fn ccontr<S: TermStore>(
     alloc: Global,
     store: &mut S,
     sig: &Signature,
@@ -46,12 +44,7 @@ pub fn ccontr<S: TermStore>(
     ensures kept { Extends (S.nodes store.old) (S.nodes store.new) }
     ensures step { Gives (S.nodes store.new) result (nameless_ccontr_gives sig.now (tree_at (S.nodes store.old) p)) }
 {
-    if !is_boolean(alloc, store, sig, p)? {
-        return Err(RuleFault::Bad(Reason::NotBool));
-    }
+    check_boolean(alloc, store, sig, p)?;
     let concl = mk_double_negation(alloc, store, p)?;
-    Ok(Sequent {
-        hyps: Ids::new(alloc),
-        concl,
-    })
+    Ok(Sequent::without_hyps(alloc, concl))
 }

@@ -21,7 +21,7 @@ use lt_store::{Id, TermStore};
 use std::alloc::Global;
 
 /// The sequent that a line's rule gives over the lines so far.
-pub fn derive<S: TermStore>(
+pub(crate) fn derive<S: TermStore>(
     alloc: Global,
     store: &mut S,
     sig: &Signature,

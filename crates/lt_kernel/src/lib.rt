@@ -10,6 +10,7 @@ mod derive;
 mod equating;
 mod implying;
 mod passes;
+mod premises;
 mod proof;
 mod proof_store;
 mod quantifying;

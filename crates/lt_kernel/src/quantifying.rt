@@ -4,16 +4,16 @@ ghost use Rattle.lt_nameless.specs.NamelessRules.{nameless_fault, nameless_allI_
 ghost use Rattle.lt_store.specs.Trees.{tree_at, Extends};
 ghost use Rattle.lt_kernel.specs.Sequents.{sequents_at, AreWithin, Gives};
 
+use crate::premises::{check_absent, check_type, forall_of, line_at};
 use crate::rule_fault::RuleFault;
 use crate::sequent::{Sequent, Step};
-use crate::steps::sequent_at;
-use lt_formulas::{as_forall, has_type, mk_at, mk_closed_for_all};
-use lt_hol::{Name, Reason, Signature, TryCopy, Ty};
-use lt_store::{Id, TermStore, has_free};
+use lt_formulas::{mk_at, mk_closed_for_all};
+use lt_hol::{Name, Signature, TryCopy, Ty};
+use lt_store::{Id, TermStore};
 use std::alloc::Global;
 
 /// From `H |- p`, where `H` doesn't have the variable `x`: `H |- all x. p`
-pub fn allI<S: TermStore>(
+pub(crate) fn allI<S: TermStore>(
     alloc: Global,
     store: &mut S,
     done: &[Step],
@@ -25,19 +25,15 @@ pub fn allI<S: TermStore>(
     ensures kept { Extends (S.nodes store.old) (S.nodes store.new) }
     ensures step { Gives (S.nodes store.new) result (nameless_allI_gives (sequents_at (S.nodes store.old) done.now) x.now ty.now i) }
 {
-    let Some(from) = sequent_at(store, done, i) else {
-        return Err(RuleFault::Bad(Reason::MissingLine));
-    };
-    if has_free(alloc, store, from.hyps.as_slice(), x, ty)? {
-        return Err(RuleFault::Bad(Reason::VariableInHypothesis));
-    }
+    let from = line_at(store, done, i)?;
+    check_absent(alloc, store, &from.hyps, x, ty)?;
     let hyps = from.hyps.copy(alloc)?;
     let concl = mk_closed_for_all(alloc, store, x, ty, from.concl)?;
     Ok(Sequent { hyps, concl })
 }
 
 /// From `H |- all x. p`: `H |- p`, opened by `t`
-pub fn allE<S: TermStore>(
+pub(crate) fn allE<S: TermStore>(
     alloc: Global,
     store: &mut S,
     sig: &Signature,
@@ -51,15 +47,9 @@ pub fn allE<S: TermStore>(
     ensures kept { Extends (S.nodes store.old) (S.nodes store.new) }
     ensures step { Gives (S.nodes store.new) result (nameless_allE_gives sig.now (sequents_at (S.nodes store.old) done.now) (tree_at (S.nodes store.old) t) i) }
 {
-    let Some(from) = sequent_at(store, done, i) else {
-        return Err(RuleFault::Bad(Reason::MissingLine));
-    };
-    let Some(all) = as_forall(alloc, store, from.concl)? else {
-        return Err(RuleFault::Bad(Reason::NotForall));
-    };
-    if !has_type(alloc, store, sig, t, &all.ty)? {
-        return Err(RuleFault::Bad(Reason::TypeDiffers));
-    }
+    let from = line_at(store, done, i)?;
+    let all = forall_of(alloc, store, from.concl)?;
+    check_type(alloc, store, sig, t, &all.ty)?;
     let hyps = from.hyps.copy(alloc)?;
     let concl = mk_at(alloc, store, all.predicate, t)?;
     Ok(Sequent { hyps, concl })

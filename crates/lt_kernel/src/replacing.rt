@@ -4,16 +4,16 @@ ghost use Rattle.lt_nameless.specs.NamelessRules.{nameless_fault, nameless_repla
 ghost use Rattle.lt_store.specs.Trees.{tree_at, Extends};
 ghost use Rattle.lt_kernel.specs.Sequents.{sequents_at, AreWithin, Gives};
 
+use crate::premises::{check_type, line_at};
 use crate::rule_fault::RuleFault;
 use crate::sequent::{Sequent, Step};
-use crate::steps::sequent_at;
-use lt_formulas::{has_type, one, union};
-use lt_hol::{Ids, Memory, Name, Reason, Signature, TryCopy, Ty, TyMap};
+use lt_formulas::{one, union};
+use lt_hol::{Ids, Memory, Name, Signature, TryCopy, Ty, TyMap};
 use lt_store::{Id, TermStore, replace_free, type_instance, type_instances};
 use std::alloc::Global;
 
 /// From `H |- p`: `H |- p`, everywhere with `t` in place of the variable `x`
-pub fn inst<S: TermStore>(
+pub(crate) fn inst<S: TermStore>(
     alloc: Global,
     store: &mut S,
     sig: &Signature,
@@ -29,12 +29,8 @@ pub fn inst<S: TermStore>(
     ensures kept { Extends (S.nodes store.old) (S.nodes store.new) }
     ensures step { Gives (S.nodes store.new) result (nameless_inst_gives sig.now (sequents_at (S.nodes store.old) done.now) x.now ty.now (tree_at (S.nodes store.old) t) i) }
 {
-    let Some(from) = sequent_at(store, done, i) else {
-        return Err(RuleFault::Bad(Reason::MissingLine));
-    };
-    if !has_type(alloc, store, sig, t, ty)? {
-        return Err(RuleFault::Bad(Reason::TypeDiffers));
-    }
+    let from = line_at(store, done, i)?;
+    check_type(alloc, store, sig, t, ty)?;
     let each = replace_free(alloc, store, from.hyps.as_slice(), x, ty, t)?;
     let hyps = union(alloc, store, &Ids::new(alloc), &each)?;
     let concl = replaced(alloc, store, from.concl, x, ty, t)?;
@@ -42,7 +38,7 @@ pub fn inst<S: TermStore>(
 }
 
 /// From `H |- p`: `H |- p`, everywhere with the type `ty` in place of the type variable `a`
-pub fn tinst<S: TermStore>(
+pub(crate) fn tinst<S: TermStore>(
     alloc: Global,
     store: &mut S,
     done: &[Step],
@@ -54,9 +50,7 @@ pub fn tinst<S: TermStore>(
     ensures kept { Extends (S.nodes store.old) (S.nodes store.new) }
     ensures step { Gives (S.nodes store.new) result (nameless_tinst_gives (sequents_at (S.nodes store.old) done.now) a.now ty.now i) }
 {
-    let Some(from) = sequent_at(store, done, i) else {
-        return Err(RuleFault::Bad(Reason::MissingLine));
-    };
+    let from = line_at(store, done, i)?;
     let by = one_pair(alloc, a, ty)?;
     let each = type_instances(alloc, store, from.hyps.as_slice(), &by)?;
     let hyps = union(alloc, store, &Ids::new(alloc), &each)?;

@@ -8,7 +8,7 @@ use crate::sequent::{Sequent, Step};
 use lt_store::TermStore;
 
 /// The line with a number, from 1.
-pub fn step_at(steps: &[Step], number: usize) -> Option<&Step>
+pub(crate) fn step_at(steps: &[Step], number: usize) -> Option<&Step>
     ensures { option_copied result ≡ line_at steps.now number }
 {
     if number == 0 {
@@ -21,7 +21,7 @@ pub fn step_at(steps: &[Step], number: usize) -> Option<&Step>
 }
 
 /// The sequent of the line with a number.
-pub fn sequent_at<'a, S: TermStore>(
+pub(crate) fn sequent_at<'a, S: TermStore>(
     _store: &S,
     done: &'a [Step],
     number: usize,
