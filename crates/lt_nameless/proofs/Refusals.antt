@@ -1,6 +1,7 @@
 -- No refusal means a valid extension.
 use Rattle.std.proofs.Common.{◌≡◌, ◌≢◌, ◌↔◌, ◌⊎◌, inl, inr, ℕ, List, [], ◌∷◌, ◌++◌, Bool, true, false, ◌&&◌, ◌||◌, not, if◌then◌else◌, Option, Some, None, is_some, is_none, Result, Ok, Err, codes, refl, sym, ◌∙◌, ap, subst}
 use Rattle.std.specs.List.{find}
+use Rattle.std.proofs.lemmas.Bool.{not-false}
 use Rattle.lt_definitions.specs.Types.{Chars, same_name, has_name, found, TypeTree, type_constructor, no_types, type_and, bool, fun, same_type, type_variables}
 use Rattle.lt_definitions.specs.Terms.{TermTree, application, is_closed, term_variables}
 use Rattle.lt_definitions.specs.Typing.{Fault, mismatch, type_fault, typed}
@@ -30,10 +31,6 @@ where-none true r e = absurd (cc e)
 none-where : (b : Bool) (r : Refusal) → b ≡ false → refused_where b r ≡ None
 none-where false r e = refl
 none-where true r e = absurd (true-false e)
-
-not-false : (b : Bool) → not b ≡ false → b ≡ true
-not-false true e = refl
-not-false false e = absurd (true-false e)
 
 false-not : (b : Bool) → b ≡ true → not b ≡ false
 false-not true e = refl
@@ -276,7 +273,7 @@ proof-ok t (Ok all) e = (all, refl, not-false (is_proved t (last_of all)) (where
 proof-ok t (Err (n, ill_typed f)) e = absurd (cc e)
 proof-ok t (Err (n, no_step r)) e = absurd (cc e)
 
-proves-is : (ctx : Context) (t : TermTree) (lines : List Rule) → proof_test t (derived ctx.signature ctx.statements [] lines) ≡ None → Proves ctx lines t
+proves-is : (ctx : Context) (t : TermTree) (lines : List (Rule TermTree)) → proof_test t (derived ctx.signature ctx.statements [] lines) ≡ None → Proves ctx lines t
 proves-is ctx t lines e =
     let h = proof-ok t (derived ctx.signature ctx.statements [] lines) e in
     let d = derived-derives ctx.signature ctx.statements [] lines h.0 h.1 in
@@ -284,7 +281,7 @@ proves-is ctx t lines e =
     let l = last-is h.0 p.0 p.1 in
     (l.0, p.0, subst (λ (ss : List Sequent). Derives ctx.signature ctx.statements [] lines ss) (sym d.1 ∙ l.1) d.2, p.2, p.3)
 
-is-proves : (ctx : Context) (t : TermTree) (lines : List Rule) → Proves ctx lines t → proof_test t (derived ctx.signature ctx.statements [] lines) ≡ None
+is-proves : (ctx : Context) (t : TermTree) (lines : List (Rule TermTree)) → Proves ctx lines t → proof_test t (derived ctx.signature ctx.statements [] lines) ≡ None
 is-proves ctx t lines h =
     ap (proof_test t) (derives-derived ctx.signature ctx.statements [] lines (h.0 ++ h.1 ∷ []) h.2)
     ∙ ap (λ o. refused_where (not (is_proved t o)) (not_proved o)) (is-last h.0 h.1)
