@@ -1,5 +1,5 @@
 pub mod TypeFaults
-pub mod Places
+pub mod LineLemmas
 pub mod NodeEquality
 pub mod DistinctTypes
 pub mod TypeNumbers

@@ -5,11 +5,12 @@ use Rattle.std.proofs.Math.Seq.{take-length}
 use Rattle.lt_types.specs.declared.ty.TyNode.{TyNode}
 use Rattle.lt_types.specs.declared.ty.TyNode.TheVariants.{Var, Con}
 use Rattle.lt_types.specs.Layout.{grow, HasRoom, forest, type_nodes}
-use Rattle.lt_types.proofs.Nodes.{step}
+use Rattle.lt_types.proofs.LayoutLemmas.{step}
 use Rattle.lt_definitions.specs.Types.{Chars, TypeTree, type_variable, type_constructor, row, listed, found}
 use Rattle.lt_definitions.proofs.SameNames.{listed-row}
 use Rattle.lt_definitions.specs.Typing.{Signature, Fault, earlier, constructor_fault, type_fault, types_fault}
-use Rattle.lt_hol.specs.TypeNodes.{arguments, node_fault}
+use Rattle.lt_types.specs.Layout.{arguments}
+use Rattle.lt_hol.specs.TypeNodes.{node_fault}
 
 earlier-assoc : (a b c : Option Fault) → earlier (earlier a b) c ≡ earlier a (earlier b c)
 earlier-assoc None b c = refl

@@ -19,7 +19,7 @@ use Rattle.lt_terms.specs.declared.term.TermNode.{TermNode}
 use Rattle.lt_terms.specs.declared.term.TermNode.TheVariants.{App, Lam}
 use Rattle.lt_terms.specs.Layout.{under, term_nodes}
 use Rattle.lt_terms.specs.BoundNames.{Places, binder_of, further, binders_in}
-use Rattle.lt_terms.proofs.TermNodes.{length-term_nodes}
+use Rattle.lt_terms.proofs.LayoutLemmas.{length-term_nodes, regroup}
 use Rattle.lt_hol.specs.TypeTables.{type_at, Extends, function_parts}
 use Rattle.lt_hol.proofs.DistinctTypes.{type_at-more}
 use Rattle.lt_hol.proofs.TypeNumbers.{extends-length, AreNumbers, numbers-more}
@@ -284,9 +284,6 @@ bound-types nodes front back from around env (application f u) is e a =
     ∙ (λ j. bound-types nodes front (term_nodes at u ++ (last ∷ back)) from around env f left e a j
     ++ (map-append (at_binder (map binder_type nodes)) (binders_in at around u) (None ∷ [])
     ∙ ap (λ bs. bs ++ None ∷ []) (bound-types nodes (front ++ term_nodes from f) (last ∷ back) at around env u right count a)) j)
-  where
-    regroup : (xs ys zs ns : List TermNode) → (xs ++ (ys ++ zs)) ++ ns ≡ xs ++ (ys ++ (zs ++ ns))
-    regroup xs ys zs ns = simp append_assoc
 bound-types nodes front back from around env (abstraction x t b) is e a =
     let place : ℕ = from + (under b + 1) in
     let last : TermNode = Lam x t (from + under b) in
@@ -341,9 +338,6 @@ stack-typed sig env from (application f u) rs ns bs =
     (λ j. typed_stack sig rs (regroup (term_nodes from f) (term_nodes at u) (last ∷ []) ns j) (regroup (bound_types env f) (bound_types env u) (None ∷ []) bs j))
     ∙ stack-typed sig env from f rs (term_nodes at u ++ (last ∷ ns)) (bound_types env u ++ (None ∷ bs))
     ∙ stack-typed sig env at u (typed sig env f ∷ rs) (last ∷ ns) (None ∷ bs)
-  where
-    regroup : {A : Type 0} (xs ys zs vs : List A) → (xs ++ (ys ++ zs)) ++ vs ≡ xs ++ (ys ++ (zs ++ vs))
-    regroup xs ys zs vs = simp append_assoc
 stack-typed sig env from (abstraction x t b) rs ns bs =
     (λ j. typed_stack sig rs (append_assoc (term_nodes from b) (Lam x t (from + under b) ∷ []) ns j) (append_assoc (bound_types ((x, t) ∷ env) b) (None ∷ []) bs j))
     ∙ stack-typed sig ((x, t) ∷ env) from b rs (Lam x t (from + under b) ∷ ns) (None ∷ bs)

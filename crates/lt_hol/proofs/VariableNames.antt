@@ -8,7 +8,7 @@ use Rattle.std.proofs.lemmas.List.{map-append}
 use Rattle.lt_types.specs.declared.ty.TyNode.{TyNode}
 use Rattle.lt_types.specs.declared.ty.TyNode.TheVariants.{Var, Con}
 use Rattle.lt_types.specs.Layout.{type_nodes, row_nodes, roots, below, grow}
-use Rattle.lt_types.proofs.Substitutions.{grow-type_instance}
+use Rattle.lt_types.proofs.MapLemmas.{grow-type_instance}
 use Rattle.lt_definitions.specs.Types.{Chars, same_name, names_joined, found, TypeTree, TypeTrees, type_variable, type_constructor, no_types, type_and, type_names, types_names, type_variables, type_instance}
 use Rattle.lt_definitions.proofs.SameNames.{both-true}
 use Rattle.lt_hol.specs.TypeTables.{type_at, types_at, all_below, Extends}

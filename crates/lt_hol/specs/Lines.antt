@@ -1,5 +1,6 @@
 -- The lines of a derivation, whose terms are places among shared nodes.
 use Rattle.std.specs.Prelude.{ℕ, ◌+◌, List, [], ◌∷◌, ◌++◌, map, Bool, true, ◌&&◌, nat_lt, get_or}
+use Rattle.std.specs.List.{list_all}
 use Rattle.lt_definitions.specs.Terms.{TermTree, free_variable, bound_name, constant, application, abstraction}
 use Rattle.lt_definitions.specs.Rules as rules
 use Rattle.lt_terms.specs.declared.term.TermNode.{TermNode}
@@ -37,43 +38,37 @@ trees_behind below (n ∷ ns) = trees_behind (below ++ tree_of below n ∷ []) n
 abbrev pub trees : List TermNode → List TermTree
 trees nodes = trees_behind [] nodes
 
+-- a line as a rule over places
+abbrev pub as_rule : Line → rules.Rule ℕ
+as_rule (Assume p) = rules.by_assume p
+as_rule (Weaken p i) = rules.by_weaken p i
+as_rule (Refl t) = rules.by_refl t
+as_rule (Sym i) = rules.by_sym i
+as_rule (Trans i j) = rules.by_trans i j
+as_rule (Cong i j) = rules.by_cong i j
+as_rule (Abs x ty i) = rules.by_abs x ty i
+as_rule (Beta t) = rules.by_beta t
+as_rule (Eta t) = rules.by_eta t
+as_rule (Eqmp i j) = rules.by_eqmp i j
+as_rule (ImpI p i) = rules.by_impI p i
+as_rule (Mp i j) = rules.by_mp i j
+as_rule (AllI x ty i) = rules.by_allI x ty i
+as_rule (AllE t i) = rules.by_allE t i
+as_rule (Iff i j) = rules.by_iff i j
+as_rule (Inst x ty t i) = rules.by_inst x ty t i
+as_rule (Tinst a ty i) = rules.by_tinst a ty i
+as_rule (Select p) = rules.by_select p
+as_rule (Ccontr p) = rules.by_ccontr p
+as_rule (Thm label) = rules.by_thm label
+
 -- whether the places in a line are below a number
 abbrev pub is_within : ℕ → Line → Bool
-is_within count (Assume p) = nat_lt p count
-is_within count (Weaken p i) = nat_lt p count
-is_within count (Refl t) = nat_lt t count
-is_within count (Beta t) = nat_lt t count
-is_within count (Eta t) = nat_lt t count
-is_within count (ImpI p i) = nat_lt p count
-is_within count (AllE t i) = nat_lt t count
-is_within count (Inst x ty t i) = nat_lt t count
-is_within count (Select p) = nat_lt p count
-is_within count (Ccontr p) = nat_lt p count
-is_within count _ = true
+is_within count line = list_all (λ p. nat_lt p count) (rules.terms_of (as_rule line))
 
 -- a line with its terms as trees, by the terms at their places
-abbrev pub rule_of : List TermTree → Line → rules.Rule
-rule_of ts (Assume p) = rules.by_assume (get_or ts p (bound_name []))
-rule_of ts (Weaken p i) = rules.by_weaken (get_or ts p (bound_name [])) i
-rule_of ts (Refl t) = rules.by_refl (get_or ts t (bound_name []))
-rule_of ts (Sym i) = rules.by_sym i
-rule_of ts (Trans i j) = rules.by_trans i j
-rule_of ts (Cong i j) = rules.by_cong i j
-rule_of ts (Abs x ty i) = rules.by_abs x ty i
-rule_of ts (Beta t) = rules.by_beta (get_or ts t (bound_name []))
-rule_of ts (Eta t) = rules.by_eta (get_or ts t (bound_name []))
-rule_of ts (Eqmp i j) = rules.by_eqmp i j
-rule_of ts (ImpI p i) = rules.by_impI (get_or ts p (bound_name [])) i
-rule_of ts (Mp i j) = rules.by_mp i j
-rule_of ts (AllI x ty i) = rules.by_allI x ty i
-rule_of ts (AllE t i) = rules.by_allE (get_or ts t (bound_name [])) i
-rule_of ts (Iff i j) = rules.by_iff i j
-rule_of ts (Inst x ty t i) = rules.by_inst x ty (get_or ts t (bound_name [])) i
-rule_of ts (Tinst a ty i) = rules.by_tinst a ty i
-rule_of ts (Select p) = rules.by_select (get_or ts p (bound_name []))
-rule_of ts (Ccontr p) = rules.by_ccontr (get_or ts p (bound_name []))
-rule_of ts (Thm label) = rules.by_thm label
+abbrev pub rule_of : List TermTree → Line → rules.Rule TermTree
+rule_of ts line = rules.rule_map (λ p. get_or ts p (bound_name [])) (as_rule line)
 
 -- the lines with their terms as trees
-abbrev pub rules_of : List TermNode → List Line → List rules.Rule
+abbrev pub rules_of : List TermNode → List Line → List (rules.Rule TermTree)
 rules_of nodes lines = map (rule_of (trees nodes)) lines

@@ -1,9 +1,10 @@
 -- Types by number: a table of nodes whose arguments are numbers of the table.
+pub use Rattle.lt_types.specs.FunctionTypes.{function_parts}
 use Rattle.std.specs.Prelude.{◌≡◌, ℕ, suc, ◌<◌, List, [], ◌∷◌, ◌++◌, length, map, slice_index_or, Bool, true, nat_lt, Option, Some, None, codes, if◌then◌else◌}
 use Rattle.std.specs.List.{list_all}
 use Rattle.lt_types.specs.declared.ty.TyNode.{TyNode}
 use Rattle.lt_types.specs.declared.ty.TyNode.TheVariants.{Var, Con}
-use Rattle.lt_definitions.specs.Types.{Chars, same_name, TypeTree, type_variable, type_constructor, no_types, type_and, row}
+use Rattle.lt_definitions.specs.Types.{Chars, same_name, TypeTree, type_variable, type_constructor, row}
 
 -- the type of a number, and those of numbers
 abbrev pub type_at : List TypeTree → ℕ → TypeTree
@@ -49,11 +50,6 @@ pub record IsTable (nodes : List TyNode) (name : Chars) : Type 0 where
 pub record Extends (old new : List TypeTree) : Type 0 where
   pub more : List TypeTree
   pub is : new ≡ old ++ more
-
--- argument and result of a type of functions
-abbrev pub function_parts : TypeTree → Option (TypeTree × TypeTree)
-function_parts (type_constructor c (type_and from (type_and to no_types))) = if same_name c (codes "fun") then Some (from, to) else None
-function_parts _ = None
 
 -- the two numbers of a list, if it has two
 abbrev pub both : List ℕ → Option (ℕ × ℕ)

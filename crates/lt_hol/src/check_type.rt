@@ -1,23 +1,13 @@
 //! Whether the constructors of a type are declared, with as many arguments as they have.
-ghost use Rattle.std.specs.Prelude.{◌≡◌, is_some, length, true};
+ghost use Rattle.std.specs.Prelude.{◌≡◌, is_some, true};
 ghost use Rattle.lt_definitions.specs.Typing.{type_fault};
 ghost use Rattle.lt_hol.specs.Faults.{Checks, Finds};
-ghost use Rattle.lt_hol.specs.TypeNodes.{node_fault, arguments};
+ghost use Rattle.lt_hol.specs.TypeNodes.{node_fault};
 
 use crate::signature::Signature;
 use crate::type_fault::TypeFault;
 use lt_types::{TryCopy, Ty, TyNode};
 use std::alloc::Global;
-
-/// How many arguments a node has.
-fn arguments(node: &TyNode) -> usize
-    ensures { result ≡ arguments node.now }
-{
-    match node {
-        TyNode::Var(_) => 0,
-        TyNode::Con(_, places) => places.len(),
-    }
-}
 
 impl Signature {
     /// Whether a node's constructor isn't declared, or with another number of arguments.
@@ -63,10 +53,10 @@ impl Signature {
         for at in (0..nodes.len()).rev() {
             let node = &nodes[at];
             if skipped > 0 {
-                skipped = skipped - 1 + arguments(node);
+                skipped = skipped - 1 + node.arguments();
             } else if self.is_wrong(node) {
                 wrong = Some(node);
-                skipped = arguments(node);
+                skipped = node.arguments();
             }
         }
         match wrong {

@@ -50,7 +50,10 @@ impl Lines {
     pub fn push(&mut self, alloc: Global, line: Line) -> Result<(), Memory>
         requires { is_within (length self.old.nodes) line ≡ true }
         ensures ok { OnOk result (self.new.lines ≡ self.old.lines ++ line ∷ []) }
-        ensures rules { OnOk result (rules_of self.new.nodes self.new.lines ≡ rules_of self.old.nodes self.old.lines ++ rule_of (trees self.old.nodes) line ∷ []) }
+        ensures rules {
+            OnOk result (rules_of self.new.nodes self.new.lines
+                ≡ rules_of self.old.nodes self.old.lines ++ rule_of (trees self.old.nodes) line ∷ [])
+        }
         ensures err { OnErr result (self.new.lines ≡ self.old.lines) }
         ensures nodes { self.new.nodes ≡ self.old.nodes }
     {

@@ -3,7 +3,7 @@ ghost use Rattle.std.specs.Prelude.{◌≡◌, ◌<◌, ◌↔◌, [], ◌∷◌
 ghost use Rattle.std.specs.Option.{option_map};
 ghost use Rattle.lt_definitions.specs.Types.{fun};
 ghost use Rattle.lt_types.specs.Layout.{HasRoom, grow};
-ghost use Rattle.lt_hol.specs.TypeTables.{type_at, types_at, made_of, all_below, is_below, Extends, function_parts, node_parts, both};
+ghost use Rattle.lt_hol.specs.TypeTables.{type_at, types_at, made_of, all_below, is_below, Extends, IsApart, function_parts, node_parts, both};
 
 use indexmap::IndexSet;
 use lt_types::{List, Memory, Name, TryCopy, Ty, TyNode};
@@ -13,6 +13,7 @@ use std::marker::Model;
 /// Distinct types, which contracts see as a list. A type's number is its place in the list.
 ///
 /// Two types of one table are equal exactly where their numbers are.
+/// A call that wants memory may leave types behind that it made on the way; those that were there stay.
 #[derive(Debug, Drop)]
 pub struct TypeTable {
     nodes: IndexSet<TyNode>,
@@ -47,9 +48,10 @@ impl TypeTable {
         })
     }
 
-    /// How many types there are.
+    /// How many types there are. No type has two numbers.
     pub fn len(&self) -> usize
-        ensures { result ≡ length self.now }
+        ensures len { result ≡ length self.now }
+        ensures apart { IsApart self.now }
     {
         self.nodes.len()
     }
@@ -77,7 +79,8 @@ impl TypeTable {
     pub fn same(&self, a: usize, b: usize) -> bool
         requires a { a < length self.now }
         requires b { b < length self.now }
-        ensures { IsTrue result ↔ (type_at self.now a ≡ type_at self.now b) }
+        ensures types { IsTrue result ↔ (type_at self.now a ≡ type_at self.now b) }
+        ensures numbers { IsTrue result ↔ (a ≡ b) }
     {
         let _ = &self.nodes;
         a == b

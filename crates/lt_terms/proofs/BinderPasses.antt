@@ -10,7 +10,7 @@ use Rattle.lt_definitions.specs.Terms.{TermTree, free_variable, bound_name, cons
 use Rattle.lt_terms.specs.Layout.{under, term_nodes, grow, HasRoom, forest, sizes}
 use Rattle.lt_terms.specs.BoundNames.{Places, binder_of, binders_in}
 use Rattle.lt_terms.specs.Scopes.{scopes_of, within, binder_at}
-use Rattle.lt_terms.proofs.TermNodes.{step, IsStep}
+use Rattle.lt_terms.proofs.LayoutLemmas.{step, IsStep}
 
 -- ---- the tasks of a pass
 

@@ -1,16 +1,13 @@
-pub mod TermNodes
+pub mod LayoutLemmas
 pub mod Stacks
-pub mod Lookups
 pub mod Replacements
 pub mod OpenBinders
 pub mod BinderPasses
 pub mod BinderLengths
 pub mod NewNames
-pub mod LongNames
 pub mod Signs
 pub mod OpenNodes
 pub mod NodeInstances
 pub mod TermPlaces
 pub mod NumberedNames
-pub mod DigitNames
 pub mod NodeCounts

@@ -3,6 +3,7 @@ use Rattle.std.proofs.Common.{◌≡◌, inl, inr, ℕ, suc, ◌+◌, ◌<◌, L
 use Rattle.std.proofs.Math.Seq.{drop-cons}
 use Rattle.std.specs.List.{list_any}
 use Rattle.std.proofs.lemmas.List.Folds.{list_any-append}
+use Rattle.std.proofs.lemmas.Bool.{or_parts, or_from}
 use Rattle.lt_definitions.specs.Types.{Chars, same_name, TypeTree, same_type}
 use Rattle.lt_definitions.specs.Terms.{TermTree, free_variable, bound_name, constant, application, abstraction, has_free}
 use Rattle.lt_definitions.specs.Binding.{opened, replaced, Closes, longest, new_binder, closed_over}
@@ -17,14 +18,6 @@ use Rattle.lt_terms.specs.declared.term.TermNode.TheVariants.{App, Lam}
 use Rattle.lt_terms.specs.Layout.{under, term_nodes}
 use Rattle.lt_terms.specs.NodeNames.{has_bound, is_bound_at}
 
-neither : (a b : Bool) → (a || b) ≡ false → (a ≡ false) × (b ≡ false)
-neither false b e = (refl, e)
-neither true b e = absurd (true-false e)
-
-false-either : (a b : Bool) → a ≡ false → b ≡ false → (a || b) ≡ false
-false-either false b d e = e
-false-either true b d e = absurd (true-false d)
-
 -- the variable is gone where a bound name stands in its places
 gone-replaced : (x : Chars) (ty : TypeTree) (n : Chars) (t : TermTree) → has_free x ty (replaced x ty (bound_name n) t) ≡ false
 gone-replaced x ty n (free_variable y u) = elim (bool_cases (same_name x y && same_type ty u)) [
@@ -33,7 +26,7 @@ gone-replaced x ty n (free_variable y u) = elim (bool_cases (same_name x y && sa
 ]
 gone-replaced x ty n (bound_name y) = refl
 gone-replaced x ty n (constant c ts) = refl
-gone-replaced x ty n (application f a) = false-either (has_free x ty (replaced x ty (bound_name n) f)) (has_free x ty (replaced x ty (bound_name n) a))
+gone-replaced x ty n (application f a) = or_from (has_free x ty (replaced x ty (bound_name n) f)) (has_free x ty (replaced x ty (bound_name n) a))
     (gone-replaced x ty n f) (gone-replaced x ty n a)
 gone-replaced x ty n (abstraction y u b) = gone-replaced x ty n b
 
@@ -48,10 +41,10 @@ opened-back n x ty (free_variable y u) e = elim (bool_cases (same_name x y && sa
 opened-back n x ty (bound_name y) e = if-false (same_name n y) (free_variable x ty) (bound_name y) e
 opened-back n x ty (constant c ts) e = refl
 opened-back n x ty (application f a) e =
-    let h = neither (has_bound n f) (has_bound n a) e in
+    let h = or_parts (has_bound n f) (has_bound n a) e in
     λ i. application (opened-back n x ty f h.0 i) (opened-back n x ty a h.1 i)
 opened-back n x ty (abstraction y u b) e =
-    let h = neither (same_name n y) (has_bound n b) e in
+    let h = or_parts (same_name n y) (has_bound n b) e in
     ap (abstraction y u) (if-false (same_name n y) (replaced x ty (bound_name n) b) (opened n (free_variable x ty) (replaced x ty (bound_name n) b)) h.0 ∙ opened-back n x ty b h.1)
 
 pub closes : (n x : Chars) (ty : TypeTree) (t c : TermTree) → has_bound n t ≡ false → c ≡ abstraction n ty (replaced x ty (bound_name n) t) → Closes x ty t c
@@ -76,8 +69,8 @@ longer-is-new : (n : Chars) (t : TermTree) → longest t < length n → has_boun
 longer-is-new n (free_variable y u) l = refl
 longer-is-new n (bound_name y) l = longer-differs n y l
 longer-is-new n (constant c ts) l = refl
-longer-is-new n (application f a) l = false-either (has_bound n f) (has_bound n a) (longer-is-new n f (omega arith)) (longer-is-new n a (omega arith))
-longer-is-new n (abstraction y u b) l = false-either (same_name n y) (has_bound n b) (longer-differs n y (omega arith)) (longer-is-new n b (omega arith))
+longer-is-new n (application f a) l = or_from (has_bound n f) (has_bound n a) (longer-is-new n f (omega arith)) (longer-is-new n a (omega arith))
+longer-is-new n (abstraction y u b) l = or_from (same_name n y) (has_bound n b) (longer-differs n y (omega arith)) (longer-is-new n b (omega arith))
 
 pub new_binder-is-new : (n : Chars) (t : TermTree) → n ≡ new_binder t → has_bound n t ≡ false
 new_binder-is-new n t e = ap (λ (m : Chars). has_bound m t) e ∙ longer-is-new (new_binder t) t (new_is_longer t)

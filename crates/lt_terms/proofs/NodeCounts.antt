@@ -9,6 +9,7 @@ use Rattle.lt_terms.specs.declared.term.TermNode.{TermNode}
 use Rattle.lt_terms.specs.declared.term.TermNode.TheVariants.{App, Lam}
 use Rattle.lt_terms.specs.Layout.{under, term_nodes}
 use Rattle.lt_terms.specs.Counts.{node_count}
+use Rattle.lt_terms.proofs.LayoutLemmas.{regroup}
 
 mutual
   pub size-nodes : (t : TypeTree) → type_size t ≡ type_nodes t
@@ -23,9 +24,6 @@ mutual
 abbrev pub nodes_in : List TermNode → ℕ
 nodes_in [] = 0
 nodes_in (n ∷ ns) = node_count n + nodes_in ns
-
-regroup : (xs ys zs ns : List TermNode) → (xs ++ (ys ++ zs)) ++ ns ≡ xs ++ (ys ++ (zs ++ ns))
-regroup xs ys zs ns = simp append_assoc
 
 nodes_in-term : (from : ℕ) (t : TermTree) (ns : List TermNode) → nodes_in (term_nodes from t ++ ns) ≡ terms.term_nodes t + nodes_in ns
 nodes_in-term from (free_variable x t) ns = refl

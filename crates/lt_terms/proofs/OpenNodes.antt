@@ -13,7 +13,7 @@ use Rattle.lt_terms.specs.declared.bound_names.Binder.{Binder}
 use Rattle.lt_terms.specs.Layout.{under, term_size, term_nodes, HasRoom}
 use Rattle.lt_terms.specs.BoundNames.{Places, further, binder_of, binders_in}
 use Rattle.lt_terms.specs.Openings.{opening, is_abstraction, is_lambda, is_at, grow_open}
-use Rattle.lt_terms.proofs.TermNodes.{length-term_nodes}
+use Rattle.lt_terms.proofs.LayoutLemmas.{length-term_nodes, regroup}
 use Rattle.lt_terms.proofs.Signs.{names, length-binders_in}
 
 -- the nodes that are left, with their binders, make these terms of those that were made
@@ -120,9 +120,6 @@ grows-bound x y by root inner built below =
     ap (λ (k : Bool). if k then by ∷ built else bound_name y ∷ built) (root-found x y root inner below) ∙ chosen (has_name x (names inner)) (same_name x y) by (bound_name y) built
 
 -- A part of the body makes its opening.
-
-regroup : {A : Type 0} (xs ys zs ns : List A) → (xs ++ (ys ++ zs)) ++ ns ≡ xs ++ (ys ++ (zs ++ ns))
-regroup xs ys zs ns = simp append_assoc
 
 moved : (root : ℕ) (by : TermTree) (built after : List TermTree) (ns ms : List TermNode) (bs cs : List (Option Binder)) → ns ≡ ms → bs ≡ cs → Reaches root by built ms cs after → Reaches root by built ns bs after
 moved root by built after ns ms bs cs n b h = subst (λ (q : List TermNode × List (Option Binder)). Reaches root by built q.0 q.1 after) (λ i. (sym n i, sym b i)) h

@@ -18,7 +18,7 @@ use Rattle.lt_terms.specs.declared.bound_names.Binder.{Binder}
 use Rattle.lt_terms.specs.Layout.{under, term_size, term_nodes}
 use Rattle.lt_terms.specs.BoundNames.{Places, further, binder_of, binders_in}
 use Rattle.lt_terms.specs.AlikeNodes.{is_constant, agrees, agree}
-use Rattle.lt_terms.proofs.TermNodes.{length-term_nodes}
+use Rattle.lt_terms.proofs.LayoutLemmas.{length-term_nodes, regroup}
 
 -- a node without what alpha equality passes over
 data Sign : Type 0 where
@@ -73,9 +73,6 @@ read before (abstraction_sign t) = bound_over t before
 abbrev read_all : List Nameless → List Sign → List Nameless
 read_all before [] = before
 read_all before (s ∷ ss) = read_all (read before s) ss
-
-regroup : {A : Type 0} (xs ys zs ns : List A) → (xs ++ (ys ++ zs)) ++ ns ≡ xs ++ (ys ++ (zs ++ ns))
-regroup xs ys zs ns = simp append_assoc
 
 read-signs : (t : Nameless) (before : List Nameless) (rest : List Sign) → read_all before (signs_of t ++ rest) ≡ read_all (t ∷ before) rest
 read-signs (nameless_free x t) before rest = refl

@@ -6,7 +6,7 @@ use Rattle.lt_terms.specs.declared.term.TermNode.TheVariants.{Free, Bound, Const
 use Rattle.lt_definitions.specs.Types.{Chars, TypeTree}
 use Rattle.lt_definitions.specs.Terms.{TermTree, free_variable, bound_name, constant, application, abstraction}
 use Rattle.lt_terms.specs.Layout.{under, term_nodes, grow, applied, abstracted, IsLeaf, forest, sizes, stacked, roots, IsStack}
-use Rattle.lt_terms.proofs.TermNodes.{length-term_nodes, forest-term_nodes}
+use Rattle.lt_terms.proofs.LayoutLemmas.{length-term_nodes, forest-term_nodes, forest-append}
 
 pub length-stacked : (ts : List TermTree) → length (stacked ts) ≡ sizes ts
 length-stacked [] = refl
@@ -15,10 +15,6 @@ length-stacked (t ∷ before) = simp length-append (omega (arith, length-stacked
 pub length-roots : (ts : List TermTree) → length (roots ts) ≡ length ts
 length-roots [] = refl
 length-roots (t ∷ before) = simp length-append (omega (arith, length-roots before))
-
-forest-append : (before : List TermTree) (xs ys : List TermNode) → forest before (xs ++ ys) ≡ forest (forest before xs) ys
-forest-append before [] ys = refl
-forest-append before (n ∷ xs) ys = forest-append (grow before n) xs ys
 
 pub forest-stacked : (ts : List TermTree) → forest [] (stacked ts) ≡ ts
 forest-stacked [] = refl

@@ -6,7 +6,8 @@ use Rattle.lt_terms.specs.declared.term.TermNode.TheVariants.{Free, Bound, Const
 use Rattle.lt_definitions.specs.Types.{Chars, TypeTree}
 use Rattle.lt_definitions.specs.Terms.{TermTree, free_variable, bound_name, constant, application, abstraction}
 use Rattle.lt_terms.specs.Layout.{under, term_nodes, grow, forest, first}
-use Rattle.lt_terms.proofs.TermNodes.{length-term_nodes, forest-term_nodes}
+use Rattle.lt_terms.proofs.LayoutLemmas.{length-term_nodes, forest-term_nodes, forest-append, regroup}
+use Rattle.lt_types.proofs.Places.{AllPlaces, places-append, at-place}
 
 -- the term whose root stands at a place
 abbrev pub term_at : List TermNode → ℕ → TermTree
@@ -31,10 +32,6 @@ pub record IsPlace (nodes : List TermNode) (at : ℕ) (n : TermNode) : Type 0 wh
   pub tree : term_at nodes at ≡ tree_of nodes n
   pub within : IsWithin (length nodes) n
 
-forest-append : (before : List TermTree) (xs ys : List TermNode) → forest before (xs ++ ys) ≡ forest (forest before xs) ys
-forest-append before [] ys = refl
-forest-append before (n ∷ xs) ys = forest-append (grow before n) xs ys
-
 -- the term that lies between other nodes stands at its root
 term_at-root : (nodes front back : List TermNode) (from : ℕ) (t : TermTree) → from ≡ length front → nodes ≡ front ++ (term_nodes from t ++ back) → term_at nodes (from + under t) ≡ t
 term_at-root nodes front back from t e h =
@@ -54,12 +51,7 @@ term_at-root nodes front back from t e h =
 
 -- the nodes from a place on make the terms there
 abbrev ArePlaces : List TermNode → ℕ → List TermNode → Type 0
-ArePlaces nodes from [] = Unit {0}
-ArePlaces nodes from (n ∷ ns) = IsPlace nodes from n × ArePlaces nodes (from + 1) ns
-
-places-append : (nodes : List TermNode) (from next : ℕ) (xs ys : List TermNode) → next ≡ from + length xs → ArePlaces nodes from xs → ArePlaces nodes next ys → ArePlaces nodes from (xs ++ ys)
-places-append nodes from next [] ys n h k = let e : next ≡ from = omega arith in subst (λ i. ArePlaces nodes i ys) e k
-places-append nodes from next (x ∷ xs) ys n h k = (h.0, places-append nodes (from + 1) next xs ys (omega arith) h.1 k)
+ArePlaces nodes from ns = AllPlaces (IsPlace nodes) from ns
 
 leaf : (nodes front back : List TermNode) (from : ℕ) (t : TermTree) → from ≡ length front → nodes ≡ front ++ (term_nodes from t ++ back) → under t ≡ 0 → term_at nodes from ≡ t
 leaf nodes front back from t e h u =
@@ -69,9 +61,6 @@ leaf nodes front back from t e h u =
 split-app : (nodes front back : List TermNode) (from : ℕ) (f a : TermTree) → nodes ≡ front ++ (term_nodes from (application f a) ++ back)
     → nodes ≡ front ++ (term_nodes from f ++ (term_nodes (from + (under f + 1)) a ++ (App (from + under f) (from + (under f + 1) + under a) ∷ back)))
 split-app nodes front back from f a h = h ∙ ap (λ ns. front ++ ns) (regroup (term_nodes from f) (term_nodes (from + (under f + 1)) a) (App (from + under f) (from + (under f + 1) + under a) ∷ []) back)
-  where
-    regroup : (xs ys zs ns : List TermNode) → (xs ++ (ys ++ zs)) ++ ns ≡ xs ++ (ys ++ (zs ++ ns))
-    regroup xs ys zs ns = simp append_assoc
 
 split-lam : (nodes front back : List TermNode) (from : ℕ) (x : Chars) (ty : TypeTree) (b : TermTree) → nodes ≡ front ++ (term_nodes from (abstraction x ty b) ++ back)
     → nodes ≡ front ++ (term_nodes from b ++ (Lam x ty (from + under b) ∷ back))
@@ -120,31 +109,22 @@ term-places nodes front back from (constant c ts) e h = (record { tree = leaf no
 term-places nodes front back from (application f a) e h =
     let last : List TermNode = App (from + under f) (from + (under f + 1) + under a) ∷ [] in
     let at : TermNode = App (from + under f) (from + (under f + 1) + under a) in
-    places-append nodes from (from + (under f + 1)) (term_nodes from f) (term_nodes (from + (under f + 1)) a ++ last) (omega (arith, length-term_nodes from f))
+    places-append (IsPlace nodes) from (from + (under f + 1)) (term_nodes from f) (term_nodes (from + (under f + 1)) a ++ last) (omega (arith, length-term_nodes from f))
     (term-places nodes front (term_nodes (from + (under f + 1)) a ++ (at ∷ back)) from f e (split-app nodes front back from f a h))
-    (places-append nodes (from + (under f + 1)) (from + under (application f a)) (term_nodes (from + (under f + 1)) a) last (omega (arith, length-term_nodes (from + (under f + 1)) a))
+    (places-append (IsPlace nodes) (from + (under f + 1)) (from + under (application f a)) (term_nodes (from + (under f + 1)) a) last (omega (arith, length-term_nodes (from + (under f + 1)) a))
     (term-places nodes (front ++ term_nodes from f) (at ∷ back) (from + (under f + 1)) a (count-argument front from f e) (later-argument nodes front back from f a h))
     (root-app nodes front back from f a e h, tt))
 term-places nodes front back from (abstraction x ty b) e h =
-    places-append nodes from (from + under (abstraction x ty b)) (term_nodes from b) (Lam x ty (from + under b) ∷ []) (omega (arith, length-term_nodes from b))
+    places-append (IsPlace nodes) from (from + under (abstraction x ty b)) (term_nodes from b) (Lam x ty (from + under b) ∷ []) (omega (arith, length-term_nodes from b))
     (term-places nodes front (Lam x ty (from + under b) ∷ back) from b e (split-lam nodes front back from x ty b h))
     (root-lam nodes front back from x ty b e h, tt)
-
-looked_up : (nodes ns : List TermNode) (from at : ℕ) (n : TermNode) → ArePlaces nodes from ns → slice_get ns at ≡ Some n → IsPlace nodes (from + at) n
-looked_up nodes [] from at n h e = cc
-looked_up nodes (m ∷ ns) from zero n h e =
-    let same : m ≡ n = cc in let place : from ≡ from + 0 = omega arith in
-    subst (λ k. IsPlace nodes k n) place (subst (IsPlace nodes from) same h.0)
-looked_up nodes (m ∷ ns) from (suc at) n h e =
-    let place : (from + 1) + at ≡ from + suc at = omega arith in
-    subst (λ k. IsPlace nodes k n) place (looked_up nodes ns (from + 1) at n h.1 e)
 
 -- the node at a place of a term
 pub place : (t : TermTree) (at : ℕ) (n : TermNode) → slice_get (term_nodes 0 t) at ≡ Some n → IsPlace (term_nodes 0 t) at n
 place t at n e =
     let none : term_nodes 0 t ≡ [] ++ (term_nodes 0 t ++ []) = sym (append-nil (term_nodes 0 t)) in
     let here : 0 + at ≡ at = omega arith in
-    subst (λ k. IsPlace (term_nodes 0 t) k n) here (looked_up (term_nodes 0 t) (term_nodes 0 t) 0 at n (term-places (term_nodes 0 t) [] [] 0 t refl none) e)
+    subst (λ k. IsPlace (term_nodes 0 t) k n) here (at-place (IsPlace (term_nodes 0 t)) (term_nodes 0 t) 0 at n (term-places (term_nodes 0 t) [] [] 0 t refl none) e)
 
 -- at the root there is the term
 pub term_at-last : (t : TermTree) → term_at (term_nodes 0 t) (under t) ≡ t

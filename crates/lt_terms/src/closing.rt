@@ -13,11 +13,14 @@ use std::alloc::Global;
 /// The abstraction over the free variable of that name and type.
 ///
 /// Its binder has the variable's name where the term has no binder and no bound name of that name,
-/// else a name that is longer than those of the term.
+/// else a name that is longer than those of the term; the clauses leave it free.
 /// It takes time linear in the term and in the names of its binders.
 pub fn close_free(alloc: Global, t: &Term, name: &Name, ty: &Ty) -> Result<Term, Memory>
     ensures closes { IfOk result (Closes name.now ty.now t.now) }
-    ensures nameless { IfOk result (λ r. nameless [] r ≡ nameless_abstraction ty.now (abstracted 0 name.now ty.now (nameless [] t.now))) }
+    ensures nameless {
+        IfOk result (λ r. nameless [] r
+            ≡ nameless_abstraction ty.now (abstracted 0 name.now ty.now (nameless [] t.now)))
+    }
 {
     let binder = unused_name(alloc, t, name)?;
     let bound = Term::bound(alloc, binder.copy(alloc)?)?;
@@ -62,12 +65,7 @@ fn is_bound_at(node: &TermNode, name: &Name) -> bool
 fn new_binder(alloc: Global, t: &Term) -> Result<Name, Memory>
     ensures { IfOk result (λ n. n ≡ new_binder t.now) }
 {
-    let mut text = String::new(alloc);
-    text.push('x')?;
-    for _ in 0..longest(t) {
-        text.push('x')?;
-    }
-    Ok(Name::word(alloc, text.as_str())?)
+    Name::repeated(alloc, 'x', longest(t))
 }
 
 /// The greatest length of the name of a binder or a bound name.

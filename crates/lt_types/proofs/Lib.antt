@@ -1,6 +1,12 @@
-pub mod Nodes
+pub mod Ascii
+pub mod LayoutLemmas
+pub mod LongNames
+pub mod MapLemmas
+pub mod MatchingLemmas
+pub mod NameLemmas
+pub mod NameTables
 pub mod Rows
-pub mod Names
-pub mod Substitutions
+pub mod Places
+pub mod TypePlaces
+pub mod VariableLemmas
 pub mod Words
-pub mod Matchings

@@ -7,7 +7,7 @@ use Rattle.lt_types.specs.declared.ty.TyNode.TheVariants.{Var, Con}
 use Rattle.lt_definitions.specs.Types.{TypeTree, Chars, type_variable, type_constructor, row}
 use Rattle.lt_definitions.proofs.SameNames.{listed-row}
 use Rattle.lt_types.specs.Layout.{below, sizes, type_size, roots, type_nodes, row_nodes, forest, IsRow}
-use Rattle.lt_types.proofs.Nodes.{length-roots, length-row_nodes, forest-row_nodes}
+use Rattle.lt_types.proofs.LayoutLemmas.{length-roots, length-row_nodes, forest-row_nodes}
 
 sizes-append : (f g : List TypeTree) → sizes (row (f ++ g)) ≡ sizes (row f) + sizes (row g)
 sizes-append [] g = omega arith

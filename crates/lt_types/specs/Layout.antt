@@ -32,6 +32,11 @@ abbrev mutual
   row_nodes from no_types = []
   row_nodes from (type_and t ts) = type_nodes from t ++ row_nodes (from + (below t + 1)) ts
 
+-- how many arguments a node has
+abbrev pub arguments : TyNode → ℕ
+arguments (Var x) = 0
+arguments (Con c ids) = length ids
+
 -- what a node makes of the types before it
 abbrev pub grow : List TypeTree → TyNode → List TypeTree
 grow before (Var x) = before ++ type_variable x ∷ []

@@ -1,6 +1,7 @@
 pub mod Codes
-pub mod Lexical
+pub mod Equality
+pub mod FunctionTypes
 pub mod Layout
 pub mod Maps
-pub mod Equality
 pub mod Matching
+pub mod TypeVariables

@@ -2,7 +2,6 @@
 use Rattle.std.specs.Prelude.{◌≡◌, ℕ, suc, List, ◌<◌, ◌≤◌, [], ◌∷◌, ◌++◌, map, length, take, is_some, if◌then◌else◌}
 use Rattle.lt_definitions.specs.Types.{TypeTree, TypeMap, type_variable, found, type_names, type_instance}
 use Rattle.lt_types.specs.declared.ty.TyNode.{TyNode}
-use Rattle.lt_types.specs.declared.ty.TyNode.TheVariants.{Var, Con}
 use Rattle.lt_types.specs.Layout.{forest}
 
 -- the first pair of each name, behind those that are there already
@@ -20,8 +19,3 @@ pub record BeginsAt (nodes : List TyNode) (end start : ℕ) : Type 0 where
   pub before : start < end
   pub one : suc (length (forest [] (take start nodes))) ≡ length (forest [] (take end nodes))
   pub inside : (k : ℕ) → start < k → k ≤ end → length (forest [] (take start nodes)) < length (forest [] (take k nodes))
-
--- how many arguments a node has
-abbrev pub arguments : TyNode → ℕ
-arguments (Var x) = 0
-arguments (Con c ids) = length ids

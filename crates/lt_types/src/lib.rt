@@ -10,6 +10,7 @@ mod substitute;
 mod ty;
 mod ty_builder;
 mod ty_map;
+mod type_variables;
 
 pub use list::{List, TryCopy};
 pub use matching::match_type;
@@ -19,6 +20,7 @@ pub use substitute::tsub;
 pub use ty::{Ty, TyNode};
 pub use ty_builder::TyBuilder;
 pub use ty_map::TyMap;
+pub use type_variables::{are_clear, long_names, longest, variables};
 
 /// A list of indices.
 pub type Ids = List<usize>;

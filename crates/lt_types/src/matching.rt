@@ -2,7 +2,7 @@
 ghost use Rattle.std.specs.Prelude.{◌≡◌, ◌<◌, ◌≤◌, ◌∷◌, [], ◌++◌, IfOk, MatchOption, length, take};
 ghost use Rattle.lt_definitions.specs.Types.{TypeMap, Matches, type_instance};
 ghost use Rattle.lt_types.specs.Layout.{type_nodes, type_size, forest};
-ghost use Rattle.lt_types.specs.Matching.{firsts_behind, AreOccurrences, BeginsAt, arguments};
+ghost use Rattle.lt_types.specs.Matching.{firsts_behind, AreOccurrences, BeginsAt};
 
 use crate::list::TryCopy;
 use crate::memory::Memory;
@@ -78,22 +78,12 @@ fn start_of(ty: &Ty, end: usize) -> usize
     let nodes = ty.nodes();
     let mut missing = 1;
     for at in (0..end).rev() {
-        missing = missing - 1 + arguments(&nodes[at]);
+        missing = missing - 1 + nodes[at].arguments();
         if missing == 0 {
             return at;
         }
     }
     unreachable!()
-}
-
-/// How many arguments a node has.
-fn arguments(node: &TyNode) -> usize
-    ensures { result ≡ arguments node.now }
-{
-    match node {
-        TyNode::Var(_) => 0,
-        TyNode::Con(_, places) => places.len(),
-    }
 }
 
 /// The type that lies between two places.

@@ -1,5 +1,7 @@
 //! Names, as texts that their copies share.
-ghost use Rattle.std.specs.Prelude.{◌≡◌, length, IfOk, MatchOption, nat_eq, true, false};
+ghost use Rattle.std.specs.Prelude.{◌≡◌, ◌+◌, length, IfOk, MatchOption, IsTrue, nat_eq, nat_lt, true, false, replicate, if◌then◌else◌};
+ghost use Rattle.std.specs.Char.{is_ascii_alphabetic};
+ghost use Rattle.std.specs.List.{list_all};
 ghost use Rattle.std.specs.Str.{chars, encode_utf8_all};
 ghost use Rattle.std.specs.Cmp.{partial_equiv_from_equiv, partial_order_from_own_ties};
 ghost use Rattle.std.specs.Cmp.Lexicographic.{pointwise, slice_cmp};
@@ -8,7 +10,9 @@ ghost use Rattle.std.specs.Ordering.{nat_cmp, as_partial_cmp};
 ghost use Rattle.std.specs.Hash as fed;
 ghost use Rattle.std.proofs.Common.{rules};
 ghost use Rattle.std.proofs.lemmas.Cmp.{nat_list_eq_equiv, nat_list_cmp_total};
-ghost use Rattle.lt_types.specs.Lexical.{is_name, may_stand};
+ghost use Rattle.unicode_ident.specs.Ident.{is_xid_continue};
+ghost use Rattle.lt_definitions.specs.Characters.{is_name, starts_name};
+ghost use Rattle.lt_definitions.specs.Types.{same_name};
 
 use crate::list::TryCopy;
 use crate::memory::Memory;
@@ -36,7 +40,7 @@ impl Model for Name {
 
     ghost view = { λ n. chars (string_bytes n.text.value) };
 
-    ghost use Rattle.lt_types.specs.Lexical.{is_name};
+    ghost use Rattle.lt_definitions.specs.Characters.{is_name};
 
     ghost invariant = { λ n. is_name (chars (string_bytes n.text.value)) ≡ true };
 }
@@ -44,7 +48,10 @@ impl Model for Name {
 impl Name {
     /// The name that the text is, if it is one.
     pub fn new(alloc: Global, text: &str) -> Result<Option<Name>, Memory>
-        ensures { IfOk result (λ o. MatchOption o (is_name (chars text.now) ≡ false) (λ n. (n ≡ chars text.now) × (is_name n ≡ true))) }
+        ensures {
+            IfOk result (λ o. MatchOption o (is_name (chars text.now) ≡ false)
+                (λ n. (n ≡ chars text.now) × (is_name n ≡ true)))
+        }
     {
         if is_name(text) {
             Ok(Some(Name::word(alloc, text)?))
@@ -61,6 +68,27 @@ impl Name {
         Ok(Name {
             text: Rc::new(alloc, String::from_str(alloc, text)?)?,
         })
+    }
+
+    /// The name that is one letter, `more` times and once.
+    pub fn repeated(alloc: Global, letter: char, more: usize) -> Result<Name, Memory>
+        requires { is_ascii_alphabetic letter ≡ true }
+        ensures { IfOk result (λ n. n ≡ replicate (more + 1) letter) }
+    {
+        let mut text = String::new(alloc);
+        text.push(letter)?;
+        for _ in 0..more {
+            text.push(letter)?;
+        }
+        Ok(Name::word(alloc, text.as_str())?)
+    }
+
+    /// Whether the name is that word of ASCII characters.
+    pub fn is_word(&self, word: &str) -> bool
+        requires { IsTrue (list_all (λ c. nat_lt c 128) word.now) }
+        ensures { result ≡ same_name self.now word.now }
+    {
+        self.text() == word
     }
 
     /// How many characters the name has.
@@ -152,7 +180,7 @@ impl Hash for Name {
 
 /// Whether a character may stand in a name, first or later.
 fn may_stand(first: bool, c: char) -> bool
-    ensures { result ≡ may_stand first c }
+    ensures { result ≡ (if first then starts_name c else is_xid_continue c) }
 {
     if first {
         is_xid_start(c) || c == '_'

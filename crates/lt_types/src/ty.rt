@@ -1,8 +1,9 @@
 //! Types as shared vectors of nodes, which contracts see as trees.
 ghost use Rattle.std.specs.Prelude.{◌≡◌, ◌<◌, slice_get, Some, IfOk, IsTrue, ◌↔◌};
 ghost use Rattle.lt_definitions.specs.Types.{type_variable, type_constructor, row, same_type};
-ghost use Rattle.lt_types.specs.Layout.{type_size, type_nodes, type_of_nodes};
-ghost use Rattle.lt_types.specs.Equality.{same_type-equiv};
+ghost use Rattle.lt_types.specs.Layout.{arguments, type_size, type_nodes, type_of_nodes};
+ghost use Rattle.lt_types.specs.Equality.{same_type-equiv, same_type-alike};
+ghost use Rattle.std.specs.Hash as fed;
 ghost use Rattle.std.specs.Cmp.{partial_equiv_from_equiv};
 
 use crate::list::{List, TryCopy};
@@ -10,6 +11,7 @@ use crate::memory::Memory;
 use crate::name::Name;
 use crate::ty_builder::TyBuilder;
 use std::alloc::Global;
+use std::hash::{Hash, Hasher};
 use std::marker::Model;
 use std::rc::Rc;
 
@@ -46,6 +48,16 @@ impl Model for Ty {
 }
 
 impl TyNode {
+    /// How many arguments the node has.
+    pub fn arguments(&self) -> usize
+        ensures { result ≡ arguments self.now }
+    {
+        match self {
+            TyNode::Var(_) => 0,
+            TyNode::Con(_, places) => places.len(),
+        }
+    }
+
     /// Whether two nodes are one.
     fn same(&self, other: &TyNode) -> bool
         ensures { IsTrue result ↔ (self.now ≡ other.now) }
@@ -133,6 +145,16 @@ impl PartialEq for Ty {
 
 impl Eq for Ty {
     ghost laws = { same_type-equiv };
+}
+
+impl Hash for Ty {
+    ghost hash_input = { λ t. fed.slice ⟦<TyNode as Hash>⟧.hash_input (type_nodes 0 t) };
+
+    ghost respects_eq = { (same_type-alike (λ t. fed.slice ⟦<TyNode as Hash>⟧.hash_input (type_nodes 0 t))).fed };
+
+    fn hash<H: Hasher>(&self, state: &mut H) {
+        self.nodes().hash(state);
+    }
 }
 
 /// Whether two lists of nodes are one.

@@ -1,9 +1,10 @@
 //! Maps from type variables to types.
-ghost use Rattle.std.specs.Prelude.{◌≡◌, ◌<◌, ◌^◌, [], IfOk, OnOk, OnErr, length, slice_get, option_map, Some};
+ghost use Rattle.std.specs.Prelude.{◌≡◌, ◌<◌, ◌^◌, [], OnOk, OnErr, true, length, map, slice_get, Some};
 ghost use Rattle.std.specs.Option.{option_copied};
-ghost use Rattle.lt_definitions.specs.Types.{found};
+ghost use Rattle.lt_definitions.specs.Types.{are_distinct, found};
 ghost use Rattle.lt_types.specs.Maps.{with_pair};
 
+use crate::list::TryCopy;
 use crate::memory::Memory;
 use crate::name::Name;
 use crate::ty::Ty;
@@ -46,8 +47,22 @@ impl TyMap {
     pub fn len(&self) -> usize
         ensures len { result ≡ length self.now }
         ensures small { result < 2 ^ 63 }
+        ensures unique { are_distinct (map (λ p. p.0) self.now) ≡ true }
     {
         self.pairs.len()
+    }
+
+    /// The pair at a place, from 0, which is that of its name.
+    pub fn at(&self, i: usize) -> (&Name, &Ty)
+        requires { i < length self.now }
+        ensures pair { slice_get self.now i ≡ Some (result.0.now, result.1.now) }
+        ensures of_name { found result.0.now self.now ≡ Some result.1.now }
+        ensures unique { are_distinct (map (λ p. p.0) self.now) ≡ true }
+    {
+        match self.pairs.as_slice().get_index(i) {
+            Some(pair) => pair,
+            None => unreachable!(),
+        }
     }
 
     /// Sets the pair of a name: in its place where there is one, else at the end.
@@ -64,5 +79,16 @@ impl TyMap {
         ensures { option_copied result ≡ found name.now self.now }
     {
         self.pairs.get(name)
+    }
+}
+
+impl TryCopy for TyMap {
+    fn copy(&self, alloc: Global) -> Result<TyMap, Memory> {
+        let mut map = TyMap::new(alloc);
+        for i in 0..self.len() {
+            let (name, ty) = self.at(i);
+            map.put(alloc, name.copy(alloc)?, ty.copy(alloc)?)?;
+        }
+        Ok(map)
     }
 }

@@ -1,5 +1,5 @@
 use Rattle.std.proofs.Common.{◌∙◌, ap, sym, length, arith}
-use Rattle.lt_terms.proofs.TermNodes.{length-term_nodes}
+use Rattle.lt_terms.proofs.LayoutLemmas.{length-term_nodes}
 use Rattle.lt_terms.proofs.Signs.{alpha-differs, as-many, alpha-vectors}
 use Rattle.lt_terms.proofs.alpha.alpha_eq.Goals as goal
 

@@ -1,7 +1,7 @@
 use Rattle.std.proofs.Common.{◌≡◌, ◌∙◌, ◌-◌, [], sym, subst, arith, length, take, reverse, List, Option, ℕ}
 use Rattle.lt_terms.specs.declared.bound_names.Binder.{Binder}
 use Rattle.lt_terms.specs.Layout.{forest}
-use Rattle.lt_terms.proofs.TermNodes.{whole}
+use Rattle.lt_terms.proofs.LayoutLemmas.{whole}
 use Rattle.lt_terms.proofs.BinderPasses.{IsFinding, at-end, at-start, some-pending, visited}
 use Rattle.lt_terms.proofs.bound_names.binders.Goals as goal
 

@@ -1,5 +1,5 @@
 use Rattle.std.proofs.Common.{◌∙◌, ap, sym, is_some}
-use Rattle.lt_terms.proofs.Lookups.{copied-some, none-found}
+use Rattle.lt_types.proofs.NameTables.{copied-some, none-found}
 use Rattle.lt_terms.proofs.NumberedNames.{underway-old}
 use Rattle.lt_terms.proofs.numbering.number_name.Goals as goal
 

@@ -1,6 +1,6 @@
 use Rattle.std.proofs.Common.{◌≡◌, [], arith}
 use Rattle.std.proofs.lemmas.Grind.{common_steps}
-use Rattle.lt_terms.proofs.TermNodes.{length-term_nodes}
+use Rattle.lt_terms.proofs.LayoutLemmas.{length-term_nodes}
 use Rattle.lt_terms.proofs.NumberedNames.{walk-first, walk-below, walk-step, walk-last, walk-smaller}
 use Rattle.lt_terms.proofs.numbering.numbering.Goals as goal
 

@@ -2,7 +2,7 @@ use Rattle.std.proofs.Common.{◌∙◌, ap, subst, sym, map, List, length}
 use Rattle.lt_definitions.specs.Terms.{TermTree}
 use Rattle.lt_definitions.specs.Binding.{replaced}
 use Rattle.lt_terms.specs.Layout.{HasRoom, first}
-use Rattle.lt_terms.proofs.TermNodes.{step, whole, IsStep}
+use Rattle.lt_terms.proofs.LayoutLemmas.{step, whole, IsStep}
 use Rattle.lt_terms.proofs.Replacements.{room-replaced}
 use Rattle.lt_terms.proofs.replacing.subst_free.Goals as goal
 

@@ -2,7 +2,7 @@ use Rattle.std.proofs.Common.{◌∙◌, ap, subst, sym, map, List, length}
 use Rattle.lt_definitions.specs.Terms.{TermTree, term_instance}
 use Rattle.lt_terms.specs.declared.term.TermNode.{TermNode}
 use Rattle.lt_terms.specs.Layout.{HasRoom, first, grow}
-use Rattle.lt_terms.proofs.TermNodes.{step, whole, IsStep}
+use Rattle.lt_terms.proofs.LayoutLemmas.{step, whole, IsStep}
 use Rattle.lt_terms.proofs.NodeInstances.{grow-instance, room-instance}
 use Rattle.lt_terms.proofs.term_instances.term_instance.Goals as goal
 

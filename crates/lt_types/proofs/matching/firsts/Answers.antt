@@ -1,6 +1,6 @@
 use Rattle.std.proofs.Common.{◌∙◌, ap, sym, is_some}
 use Rattle.lt_types.specs.Maps.{with_pair}
-use Rattle.lt_types.proofs.Matchings.{firsts-new, firsts-old, copied-some}
+use Rattle.lt_types.proofs.MatchingLemmas.{firsts-new, firsts-old, copied-some}
 use Rattle.lt_types.proofs.matching.firsts.Goals as goal
 
 pub loop-pair-preserved-then-is_some : goal.loop-pair-preserved-then-is_some

@@ -2,7 +2,7 @@ use Rattle.std.proofs.Common.{◌≡◌, ◌∙◌, [], map, ap, sym, subst, Mat
 use Rattle.lt_definitions.specs.Types.{TypeMap, type_instance}
 use Rattle.lt_definitions.proofs.SameNames.{type-true, true-type, true-false}
 use Rattle.lt_types.specs.Matching.{firsts_behind, AreOccurrences}
-use Rattle.lt_types.proofs.Matchings.{firsts-domain, firsts-match}
+use Rattle.lt_types.proofs.MatchingLemmas.{firsts-domain, firsts-match}
 use Rattle.lt_types.proofs.matching.match_type.Goals as goal
 
 pub returns-then-eq : goal.returns-then-eq

@@ -4,8 +4,8 @@ use Rattle.lt_definitions.specs.Types.{TypeMap}
 use Rattle.lt_types.specs.declared.ty.TyNode.{TyNode}
 use Rattle.lt_types.specs.declared.ty.TyNode.TheVariants as TheVariants
 use Rattle.lt_types.specs.Layout.{type_nodes, forest}
-use Rattle.lt_types.proofs.Nodes.{length-type_nodes, whole}
-use Rattle.lt_types.proofs.Matchings.{IsLeft, left-init, past-none, past-var, past-con}
+use Rattle.lt_types.proofs.LayoutLemmas.{length-type_nodes, whole}
+use Rattle.lt_types.proofs.MatchingLemmas.{IsLeft, left-init, past-none, past-var, past-con}
 use Rattle.lt_types.proofs.matching.occurrences.Goals as goal
 
 pub loop-at-init : goal.loop-at-init

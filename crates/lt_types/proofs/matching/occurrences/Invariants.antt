@@ -1,6 +1,6 @@
 use Rattle.std.proofs.Common.{◌≤◌, [], take, length, reverse}
 use Rattle.lt_types.specs.Layout.{type_nodes, forest}
-use Rattle.lt_types.proofs.Matchings.{IsLeft}
+use Rattle.lt_types.proofs.MatchingLemmas.{IsLeft}
 use Rattle.lt_types.proofs.matching.occurrences.Given as goal
 
 abbrev pub invariant-loop-at : goal.invariant-loop-at

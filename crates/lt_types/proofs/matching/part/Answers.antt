@@ -2,8 +2,8 @@ use Rattle.std.proofs.Common.{◌≡◌, ◌+◌, ◌<◌, ◌++◌, [], ◌∙�
 use Rattle.std.proofs.lemmas.Result.{IfOk-weaker}
 use Rattle.lt_definitions.specs.Types.{TypeTree}
 use Rattle.lt_types.specs.Layout.{type_nodes, forest, grow, HasRoom}
-use Rattle.lt_types.proofs.Nodes.{length-type_nodes, step, grow-under, IsStep}
-use Rattle.lt_types.proofs.Matchings.{room-part}
+use Rattle.lt_types.proofs.LayoutLemmas.{length-type_nodes, step, grow-under, IsStep}
+use Rattle.lt_types.proofs.MatchingLemmas.{room-part}
 use Rattle.lt_types.proofs.matching.part.Goals as goal
 use Rattle.lt_types.proofs.matching.part.Goals.{After-index-nodes-at}
 

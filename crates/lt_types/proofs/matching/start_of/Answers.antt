@@ -1,8 +1,7 @@
 use Rattle.std.proofs.Common.{◌≡◌, ◌+◌, ◌-◌, ◌≤◌, ◌<◌, ◌∙◌, ap, sym, subst, arith, length, get_or}
-use Rattle.lt_types.specs.Layout.{type_nodes}
-use Rattle.lt_types.specs.Matching.{arguments}
-use Rattle.lt_types.proofs.Nodes.{length-type_nodes}
-use Rattle.lt_types.proofs.Matchings.{IsSought, sought-init, sought-next, sought-found, sought-few, sought-ends}
+use Rattle.lt_types.specs.Layout.{arguments, type_nodes}
+use Rattle.lt_types.proofs.LayoutLemmas.{length-type_nodes}
+use Rattle.lt_types.proofs.MatchingLemmas.{IsSought, sought-init, sought-next, sought-found, sought-few, sought-ends}
 use Rattle.lt_types.proofs.matching.start_of.Goals as goal
 
 pub loop-at-init : goal.loop-at-init

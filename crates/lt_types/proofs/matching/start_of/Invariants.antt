@@ -1,5 +1,5 @@
 use Rattle.lt_types.specs.Layout.{type_nodes}
-use Rattle.lt_types.proofs.Matchings.{IsSought}
+use Rattle.lt_types.proofs.MatchingLemmas.{IsSought}
 use Rattle.lt_types.proofs.matching.start_of.Given as goal
 
 abbrev pub invariant-loop-at : goal.invariant-loop-at

@@ -1,5 +1,5 @@
 use Rattle.std.proofs.Common.{◌∙◌, sym}
-use Rattle.lt_types.proofs.Names.{left-never, left-next, left-end, name_end}
+use Rattle.lt_types.proofs.NameLemmas.{left-never, left-next, left-end, name_end}
 use Rattle.lt_types.proofs.name.is_name.Goals as goal
 
 pub returns-then-not-may_stand : goal.returns-then-not-may_stand

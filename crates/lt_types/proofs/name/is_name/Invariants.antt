@@ -1,4 +1,4 @@
-use Rattle.lt_types.proofs.Names.{IsLeft}
+use Rattle.lt_types.proofs.NameLemmas.{IsLeft}
 use Rattle.lt_types.proofs.name.is_name.Given as goal
 
 abbrev pub invariant-loop-c : goal.invariant-loop-c

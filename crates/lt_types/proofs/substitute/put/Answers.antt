@@ -2,7 +2,7 @@ use Rattle.std.proofs.Common.{◌∙◌, ◌-◌, ◌++◌, ◌∷◌, [], ap, s
 use Rattle.lt_definitions.specs.Types.{type_constructor, row}
 use Rattle.lt_types.specs.Layout.{grow}
 use Rattle.lt_definitions.specs.Types.{type_instance}
-use Rattle.lt_types.proofs.Substitutions.{grow-type_instance}
+use Rattle.lt_types.proofs.MapLemmas.{grow-type_instance}
 use Rattle.lt_types.proofs.substitute.put.Goals as goal
 
 pub returns-in_ok-con-in-Con : goal.returns-in_ok-con-in-Con

@@ -3,8 +3,8 @@ use Rattle.std.proofs.lemmas.Result.{IfOk-weaker}
 use Rattle.lt_definitions.specs.Types.{TypeTree}
 use Rattle.lt_types.specs.Layout.{HasRoom, first}
 use Rattle.lt_definitions.specs.Types.{type_instance}
-use Rattle.lt_types.proofs.Nodes.{step, whole, IsStep}
-use Rattle.lt_types.proofs.Substitutions.{room-type_instance}
+use Rattle.lt_types.proofs.LayoutLemmas.{step, whole, IsStep}
+use Rattle.lt_types.proofs.MapLemmas.{room-type_instance}
 use Rattle.lt_types.proofs.substitute.tsub.Goals as goal
 
 here : (c : goal.After-node-item) → IsStep c.nodes-node-items.result.now c.loop-node.node-index c.node-item.result

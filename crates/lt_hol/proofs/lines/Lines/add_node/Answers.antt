@@ -2,7 +2,7 @@ use Rattle.std.proofs.Common.{◌≡◌, ◌+◌, ◌∙◌, ap, arith, length, 
 use Rattle.std.specs.List.{list_all}
 use Rattle.lt_terms.specs.declared.term.TermNode.{TermNode}
 use Rattle.lt_hol.specs.Lines.{are_in_order, has_children_below, is_within, rules_of}
-use Rattle.lt_hol.proofs.Places.{grown, order-more, within-node, rules-stay}
+use Rattle.lt_hol.proofs.LineLemmas.{grown, order-more, within-node, rules-stay}
 use Rattle.lt_hol.proofs.lines.Lines.add_node.Goals as goal
 
 pub invariant_of-self : goal.invariant_of-self

@@ -3,7 +3,7 @@ use Rattle.lt_definitions.specs.Types.{found}
 use Rattle.lt_definitions.specs.Typing.{Signature, type_fault}
 use Rattle.lt_hol.specs.Faults.{Checks}
 use Rattle.lt_hol.specs.declared.type_fault.TypeFault.{TypeFault}
-use Rattle.lt_terms.proofs.Lookups.{inserted-new, none-found, copied-some}
+use Rattle.lt_types.proofs.NameTables.{inserted-new, none-found, copied-some}
 use Rattle.lt_hol.proofs.signature.Signature.add_const.Goals as goal
 
 pub returns : goal.returns

@@ -1,7 +1,7 @@
 use Rattle.std.proofs.Common.{◌≡◌, ◌∷◌, ◌++◌, [], ◌∙◌, ap, sym, is_some, false}
 use Rattle.lt_definitions.specs.Types.{found}
 use Rattle.lt_definitions.specs.Typing.{Signature}
-use Rattle.lt_terms.proofs.Lookups.{inserted-new, none-found}
+use Rattle.lt_types.proofs.NameTables.{inserted-new, none-found}
 use Rattle.lt_hol.proofs.signature.Signature.add_type.Goals as goal
 
 pub returns : goal.returns

@@ -1,7 +1,7 @@
 use Rattle.std.proofs.Common.{◌∙◌, ap}
 use Rattle.lt_definitions.specs.Types.{found}
 use Rattle.lt_definitions.specs.Typing.{Signature}
-use Rattle.lt_types.proofs.Substitutions.{looked_up}
+use Rattle.lt_types.proofs.MapLemmas.{looked_up}
 use Rattle.lt_hol.proofs.signature.Signature.arity.Goals as goal
 
 pub returns : goal.returns

@@ -1,8 +1,8 @@
 use Rattle.std.proofs.Common.{◌≡◌, ◌+◌, ◌-◌, ◌<◌, ◌∙◌, sym, subst, arith, length, None, true, is_some, Option, Bor}
 use Rattle.lt_types.specs.declared.ty.TyNode.{TyNode}
-use Rattle.lt_types.proofs.Nodes.{whole}
+use Rattle.lt_types.proofs.LayoutLemmas.{whole}
 use Rattle.lt_hol.specs.TypeNodes.{node_fault}
-use Rattle.lt_terms.proofs.Lookups.{none-found}
+use Rattle.lt_types.proofs.NameTables.{none-found}
 use Rattle.lt_hol.proofs.TypeFaults.{IsWrong, at-end, at-skipped, at-wrong, at-right, few}
 use Rattle.lt_hol.proofs.signature.Signature.check_type.Goals as goal
 

@@ -1,7 +1,7 @@
 use Rattle.std.proofs.Common.{◌≡◌, ◌∙◌, [], ◌∷◌, List, take, arith, sym, ap, subst}
 use Rattle.lt_definitions.specs.Types.{TypeTree}
 use Rattle.lt_types.specs.Layout.{HasRoom, grow, forest}
-use Rattle.lt_types.proofs.Nodes.{step, whole, IsStep}
+use Rattle.lt_types.proofs.LayoutLemmas.{step, whole, IsStep}
 use Rattle.lt_hol.proofs.DistinctTypes.{extends-then}
 use Rattle.lt_hol.proofs.TypeNumbers.{AreNumbers, one-number, some-number}
 use Rattle.lt_hol.proofs.type_table.TypeTable.intern.Goals as goal

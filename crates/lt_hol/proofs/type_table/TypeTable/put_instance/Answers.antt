@@ -2,8 +2,8 @@ use Rattle.std.proofs.Common.{◌≡◌, ◌∙◌, [], ◌∷◌, List, take, m
 use Rattle.std.specs.List.{zip}
 use Rattle.lt_definitions.specs.Types.{TypeTree, TypeMap, type_instance}
 use Rattle.lt_types.specs.Layout.{HasRoom, forest}
-use Rattle.lt_types.proofs.Nodes.{step, whole, IsStep}
-use Rattle.lt_types.proofs.Substitutions.{room-type_instance}
+use Rattle.lt_types.proofs.LayoutLemmas.{step, whole, IsStep}
+use Rattle.lt_types.proofs.MapLemmas.{room-type_instance}
 use Rattle.lt_hol.specs.TypeTables.{types_at}
 use Rattle.lt_hol.specs.Instances.{grown_by}
 use Rattle.lt_hol.proofs.DistinctTypes.{extends-then, all-more}

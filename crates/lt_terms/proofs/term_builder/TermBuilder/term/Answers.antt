@@ -1,7 +1,7 @@
 use Rattle.std.proofs.Common.{◌∙◌, ◌++◌, sym, ap, subst, List}
 use Rattle.lt_definitions.specs.Terms.{TermTree}
 use Rattle.lt_terms.specs.Layout.{HasRoom, grow}
-use Rattle.lt_terms.proofs.TermNodes.{step, whole, room-over, grow-over, IsStep}
+use Rattle.lt_terms.proofs.LayoutLemmas.{step, whole, room-over, grow-over, IsStep}
 use Rattle.lt_terms.proofs.term_builder.TermBuilder.term.Goals as goal
 
 pub node-requires : goal.node-requires

@@ -1,6 +1,6 @@
 use Rattle.std.proofs.Common.{◌∙◌, nat_eq}
 use Rattle.std.specs.Cmp.Lexicographic.{pointwise}
-use Rattle.lt_types.proofs.Names.{same_by_chars}
+use Rattle.lt_types.proofs.NameLemmas.{same_by_chars}
 use Rattle.lt_types.proofs.name.NamePartialEq.eq.Goals as goal
 
 pub returns : goal.returns

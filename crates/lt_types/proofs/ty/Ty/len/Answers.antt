@@ -1,5 +1,5 @@
 use Rattle.std.proofs.Common.{◌∙◌, ap, length}
-use Rattle.lt_types.proofs.Nodes.{length-type_nodes}
+use Rattle.lt_types.proofs.LayoutLemmas.{length-type_nodes}
 use Rattle.lt_types.proofs.ty.Ty.len.Goals as goal
 
 pub returns : goal.returns

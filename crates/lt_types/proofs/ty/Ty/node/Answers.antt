@@ -1,6 +1,6 @@
 use Rattle.std.proofs.Common.{◌∙◌, ap, sym, arith, length, slice_get, Some}
 use Rattle.std.proofs.lemmas.Option.{slice_get-get_or}
-use Rattle.lt_types.proofs.Nodes.{length-type_nodes}
+use Rattle.lt_types.proofs.LayoutLemmas.{length-type_nodes}
 use Rattle.lt_types.proofs.ty.Ty.node.Goals as goal
 
 pub offset_bounds-nodes-at : goal.offset_bounds-nodes-at

@@ -3,7 +3,7 @@ use Rattle.std.specs.Bool.{one_answer}
 use Rattle.lt_definitions.specs.Types.{same_type}
 use Rattle.lt_definitions.proofs.SameNames.{type-true, true-type}
 use Rattle.lt_types.specs.Layout.{type_nodes}
-use Rattle.lt_types.proofs.Nodes.{same-nodes}
+use Rattle.lt_types.proofs.LayoutLemmas.{same-nodes}
 use Rattle.lt_types.proofs.ty.TyPartialEq.eq.Goals as goal
 
 pub returns : goal.returns

@@ -1,7 +1,7 @@
 use Rattle.std.proofs.Common.{◌∙◌, ◌++◌, sym, ap, subst, append-nil, List}
 use Rattle.lt_definitions.specs.Types.{TypeTree}
 use Rattle.lt_types.specs.Layout.{HasRoom, grow}
-use Rattle.lt_types.proofs.Nodes.{step, whole, room-under, grow-under, IsStep}
+use Rattle.lt_types.proofs.LayoutLemmas.{step, whole, room-under, grow-under, IsStep}
 use Rattle.lt_types.proofs.ty_builder.TyBuilder.ty.Goals as goal
 
 pub loop-node-init : goal.loop-node-init

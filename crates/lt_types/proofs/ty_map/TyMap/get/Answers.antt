@@ -1,6 +1,6 @@
 use Rattle.std.proofs.Common.{◌∙◌, ap}
 use Rattle.lt_definitions.specs.Types.{found}
-use Rattle.lt_types.proofs.Substitutions.{looked_up}
+use Rattle.lt_types.proofs.MapLemmas.{looked_up}
 use Rattle.lt_types.proofs.ty_map.TyMap.get.Goals as goal
 
 pub returns : goal.returns

@@ -1,6 +1,6 @@
 use Rattle.std.proofs.Common.{◌∙◌, ap}
 use Rattle.lt_types.specs.Maps.{with_pair}
-use Rattle.lt_types.proofs.Substitutions.{inserted}
+use Rattle.lt_types.proofs.MapLemmas.{inserted}
 use Rattle.lt_types.proofs.ty_map.TyMap.put.Goals as goal
 
 pub returns-clause-ok : goal.returns-clause-ok

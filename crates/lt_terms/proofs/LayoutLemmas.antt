@@ -15,8 +15,8 @@ length-term_nodes from (application f a) =
     simp length-append (omega (arith, length-term_nodes from f, length-term_nodes (from + (under f + 1)) a))
 length-term_nodes from (abstraction x t b) = simp length-append (omega (arith, length-term_nodes from b))
 
--- the nodes of an application, regrouped
-regroup : (xs ys zs ns : List TermNode) → (xs ++ (ys ++ zs)) ++ ns ≡ xs ++ (ys ++ (zs ++ ns))
+-- three lists and a fourth, regrouped
+pub regroup : {A : Type 0} (xs ys zs ns : List A) → (xs ++ (ys ++ zs)) ++ ns ≡ xs ++ (ys ++ (zs ++ ns))
 regroup xs ys zs ns = simp append_assoc
 
 pub forest-term_nodes : (from : ℕ) (t : TermTree) (before : List TermTree) (ns : List TermNode) → forest before (term_nodes from t ++ ns) ≡ forest (t ∷ before) ns
@@ -42,7 +42,7 @@ term_of_nodes-term_nodes from t = ap first (forest-whole from t)
 pub laid : (nodes : List TermNode) (t : TermTree) → nodes ≡ term_nodes 0 (term_of_nodes nodes) → term_of_nodes nodes ≡ t → nodes ≡ term_nodes 0 t
 laid nodes t h e = h ∙ ap (term_nodes 0) e
 
-forest-append : (before : List TermTree) (xs ys : List TermNode) → forest before (xs ++ ys) ≡ forest (forest before xs) ys
+pub forest-append : (before : List TermTree) (xs ys : List TermNode) → forest before (xs ++ ys) ≡ forest (forest before xs) ys
 forest-append before [] ys = refl
 forest-append before (n ∷ xs) ys = forest-append (grow before n) xs ys
 

@@ -8,21 +8,16 @@ use Rattle.lt_types.specs.declared.ty.TyNode.{TyNode}
 use Rattle.lt_types.specs.declared.ty.TyNode.TheVariants.{Var, Con}
 use Rattle.lt_definitions.specs.Types.{Chars, same_name, has_name, names_joined, TypeTree, TypeTrees, TypeMap, type_variable, type_constructor, no_types, type_and, row, listed, found, type_names, types_names, type_variables, type_instance, types_instance}
 use Rattle.lt_definitions.proofs.SameNames.{true-false, name-true, true-name, listed-row}
-use Rattle.lt_types.specs.Layout.{grow, HasRoom, forest, type_nodes}
+use Rattle.lt_types.specs.Layout.{arguments, grow, HasRoom, forest, type_nodes}
 use Rattle.lt_types.specs.Maps.{with_pair}
-use Rattle.lt_types.specs.Matching.{firsts_behind, AreOccurrences, BeginsAt, arguments}
-use Rattle.lt_types.proofs.Substitutions.{row-map}
-use Rattle.lt_types.proofs.Nodes.{step, IsStep}
+use Rattle.lt_types.specs.Matching.{firsts_behind, AreOccurrences, BeginsAt}
+use Rattle.lt_types.proofs.MapLemmas.{row-map, inserted}
+use Rattle.lt_types.proofs.NameTables.{inserted-new}
+use Rattle.lt_types.proofs.LayoutLemmas.{step, IsStep}
 
 -- a pair for a new name is set at the end
 pub with_pair-new : (x : Chars) (t : TypeTree) (es : TypeMap) → is_some (found x es) ≡ false → with_pair x t es ≡ es ++ (x, t) ∷ []
-with_pair-new x t [] e = refl
-with_pair-new x t (p ∷ ps) e = by (with_pair-new x t ps) (same_name x p.0) refl
-  where
-    by : (is_some (found x ps) ≡ false → with_pair x t ps ≡ ps ++ (x, t) ∷ []) → (b : Bool) → same_name x p.0 ≡ b → with_pair x t (p ∷ ps) ≡ (p ∷ ps) ++ (x, t) ∷ []
-    by later true h = absurd (true-false (sym (ap (λ (c : Bool). is_some (if c then Some p.1 else found x ps)) h) ∙ e))
-    by later false h = ap (λ (c : Bool). if c then (p.0, t) ∷ ps else p ∷ with_pair x t ps) h
-        ∙ ap (λ qs. p ∷ qs) (later (sym (ap (λ (c : Bool). is_some (if c then Some p.1 else found x ps)) h) ∙ e))
+with_pair-new x t es e = sym (inserted x t es) ∙ inserted-new x t es e
 
 -- a name has a pair where it is among the names
 found-has : (x : Chars) (es : TypeMap) → is_some (found x es) ≡ has_name x (map (λ p. p.0) es)

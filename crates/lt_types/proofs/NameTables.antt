@@ -1,4 +1,4 @@
--- Looking names up in a signature, and declaring them.
+-- Tables of names: what a look-up tells, and a new name is put last.
 use Rattle.std.proofs.Common.{◌≡◌, List, [], ◌∷◌, ◌++◌, Bool, true, false, is_some, Option, Some, None, if◌then◌else◌, refl, sym, ◌∙◌, ap, nat_eq, Bor}
 use Rattle.std.specs.Option.{option_copied}
 use Rattle.std.specs.Cmp.Lexicographic.{pointwise}

@@ -1,15 +1,14 @@
 -- Lines whose terms are places among nodes.
-use Rattle.std.proofs.Common.{◌≡◌, ℕ, suc, ◌+◌, ◌<◌, List, [], ◌∷◌, ◌++◌, length, map, get_or, true, nat_lt, refl, sym, ◌∙◌, ap, subst, arith, length-append, Result, Ok, Err, OnOk, OnErr}
+use Rattle.std.proofs.Common.{◌≡◌, ℕ, suc, ◌+◌, ◌<◌, List, [], ◌∷◌, ◌++◌, length, map, get_or, Bool, true, nat_lt, refl, sym, ◌∙◌, ap, subst, arith, length-append, Result, Ok, Err, OnOk, OnErr}
 use Rattle.std.specs.List.{list_all}
 use Rattle.std.proofs.Math.ListN.{get_or-append}
-use Rattle.std.proofs.lemmas.Bool.{ltb-true, lt-ltb}
+use Rattle.std.proofs.lemmas.Bool.{ltb-true, lt-ltb, and_parts, and_from}
 use Rattle.lt_definitions.proofs.SameNames.{both-true, true-both}
 use Rattle.lt_definitions.specs.Terms.{TermTree, bound_name}
 use Rattle.lt_definitions.specs.Rules as rules
 use Rattle.lt_terms.specs.declared.term.TermNode.{TermNode}
 use Rattle.lt_hol.specs.declared.line.Line.{Line}
-use Rattle.lt_hol.specs.declared.line.Line.TheVariants.{Assume, Weaken, Refl, Sym, Trans, Cong, Abs, Beta, Eta, Eqmp, ImpI, Mp, AllI, AllE, Iff, Inst, Tinst, Select, Ccontr, Thm}
-use Rattle.lt_hol.specs.Lines.{has_children_below, are_in_order, tree_of, trees_behind, trees, is_within, rule_of, rules_of}
+use Rattle.lt_hol.specs.Lines.{has_children_below, are_in_order, tree_of, trees_behind, trees, as_rule, is_within, rule_of, rules_of}
 
 -- one more node
 pub order-more : (place : ℕ) (ns : List TermNode) (n : TermNode) → are_in_order place ns ≡ true → has_children_below (place + length ns) n ≡ true → are_in_order place (ns ++ n ∷ []) ≡ true
@@ -31,27 +30,32 @@ behind-append ts (n ∷ xs) ys = behind-append (ts ++ tree_of ts n ∷ []) xs ys
 at-front : (ts us : List TermTree) (k p : ℕ) → k ≡ length ts → nat_lt p k ≡ true → get_or (ts ++ us) p (bound_name []) ≡ get_or ts p (bound_name [])
 at-front ts us k p e h = get_or-append ts us (bound_name []) p (omega (arith, e, ltb-true p k h))
 
+-- a rule whose terms become the same is the same
+map-same : {T : Type 0} (f g : ℕ → T) (test : ℕ → Bool) (r : rules.Rule ℕ) → ((p : ℕ) → test p ≡ true → f p ≡ g p) → list_all test (rules.terms_of r) ≡ true → rules.rule_map f r ≡ rules.rule_map g r
+map-same f g test (rules.by_assume p) s h = ap rules.by_assume (s p (and_parts _ _ h).0)
+map-same f g test (rules.by_weaken p i) s h = ap (λ t. rules.by_weaken t i) (s p (and_parts _ _ h).0)
+map-same f g test (rules.by_refl t) s h = ap rules.by_refl (s t (and_parts _ _ h).0)
+map-same f g test (rules.by_sym i) s h = refl
+map-same f g test (rules.by_trans i j) s h = refl
+map-same f g test (rules.by_cong i j) s h = refl
+map-same f g test (rules.by_abs x ty i) s h = refl
+map-same f g test (rules.by_beta t) s h = ap rules.by_beta (s t (and_parts _ _ h).0)
+map-same f g test (rules.by_eta t) s h = ap rules.by_eta (s t (and_parts _ _ h).0)
+map-same f g test (rules.by_eqmp i j) s h = refl
+map-same f g test (rules.by_impI p i) s h = ap (λ t. rules.by_impI t i) (s p (and_parts _ _ h).0)
+map-same f g test (rules.by_mp i j) s h = refl
+map-same f g test (rules.by_allI x ty i) s h = refl
+map-same f g test (rules.by_allE t i) s h = ap (λ u. rules.by_allE u i) (s t (and_parts _ _ h).0)
+map-same f g test (rules.by_iff i j) s h = refl
+map-same f g test (rules.by_inst x ty t i) s h = ap (λ u. rules.by_inst x ty u i) (s t (and_parts _ _ h).0)
+map-same f g test (rules.by_tinst a ty i) s h = refl
+map-same f g test (rules.by_select p) s h = ap rules.by_select (s p (and_parts _ _ h).0)
+map-same f g test (rules.by_ccontr p) s h = ap rules.by_ccontr (s p (and_parts _ _ h).0)
+map-same f g test (rules.by_thm label) s h = refl
+
 rule-more : (ts us : List TermTree) (k : ℕ) (l : Line) → k ≡ length ts → is_within k l ≡ true → rule_of (ts ++ us) l ≡ rule_of ts l
-rule-more ts us k (Assume p) e h = ap rules.by_assume (at-front ts us k p e h)
-rule-more ts us k (Weaken p i) e h = ap (λ t. rules.by_weaken t i) (at-front ts us k p e h)
-rule-more ts us k (Refl t) e h = ap rules.by_refl (at-front ts us k t e h)
-rule-more ts us k (Sym i) e h = refl
-rule-more ts us k (Trans i j) e h = refl
-rule-more ts us k (Cong i j) e h = refl
-rule-more ts us k (Abs x ty i) e h = refl
-rule-more ts us k (Beta t) e h = ap rules.by_beta (at-front ts us k t e h)
-rule-more ts us k (Eta t) e h = ap rules.by_eta (at-front ts us k t e h)
-rule-more ts us k (Eqmp i j) e h = refl
-rule-more ts us k (ImpI p i) e h = ap (λ t. rules.by_impI t i) (at-front ts us k p e h)
-rule-more ts us k (Mp i j) e h = refl
-rule-more ts us k (AllI x ty i) e h = refl
-rule-more ts us k (AllE t i) e h = ap (λ u. rules.by_allE u i) (at-front ts us k t e h)
-rule-more ts us k (Iff i j) e h = refl
-rule-more ts us k (Inst x ty t i) e h = ap (λ u. rules.by_inst x ty u i) (at-front ts us k t e h)
-rule-more ts us k (Tinst a ty i) e h = refl
-rule-more ts us k (Select p) e h = ap rules.by_select (at-front ts us k p e h)
-rule-more ts us k (Ccontr p) e h = ap rules.by_ccontr (at-front ts us k p e h)
-rule-more ts us k (Thm label) e h = refl
+rule-more ts us k l e h =
+    map-same (λ p. get_or (ts ++ us) p (bound_name [])) (λ p. get_or ts p (bound_name [])) (λ p. nat_lt p k) (as_rule l) (λ p b. at-front ts us k p e b) h
 
 rules-more : (ts us : List TermTree) (k : ℕ) (ls : List Line) → k ≡ length ts → list_all (is_within k) ls ≡ true → map (rule_of (ts ++ us)) ls ≡ map (rule_of ts) ls
 rules-more ts us k [] e h = refl
@@ -68,27 +72,12 @@ rules-stay ns n ls h =
 later : (k p : ℕ) → nat_lt p k ≡ true → nat_lt p (suc k) ≡ true
 later k p h = let below : p < k = ltb-true p k h in lt-ltb p (suc k) (omega (arith, below))
 
+all-later : (k : ℕ) (ps : List ℕ) → list_all (λ p. nat_lt p k) ps ≡ true → list_all (λ p. nat_lt p (suc k)) ps ≡ true
+all-later k [] h = refl
+all-later k (p ∷ ps) h = let s = and_parts _ _ h in and_from _ _ (later k p s.0) (all-later k ps s.1)
+
 within-more : (k : ℕ) (l : Line) → is_within k l ≡ true → is_within (suc k) l ≡ true
-within-more k (Assume p) h = later k p h
-within-more k (Weaken p i) h = later k p h
-within-more k (Refl t) h = later k t h
-within-more k (Sym i) h = refl
-within-more k (Trans i j) h = refl
-within-more k (Cong i j) h = refl
-within-more k (Abs x ty i) h = refl
-within-more k (Beta t) h = later k t h
-within-more k (Eta t) h = later k t h
-within-more k (Eqmp i j) h = refl
-within-more k (ImpI p i) h = later k p h
-within-more k (Mp i j) h = refl
-within-more k (AllI x ty i) h = refl
-within-more k (AllE t i) h = later k t h
-within-more k (Iff i j) h = refl
-within-more k (Inst x ty t i) h = later k t h
-within-more k (Tinst a ty i) h = refl
-within-more k (Select p) h = later k p h
-within-more k (Ccontr p) h = later k p h
-within-more k (Thm label) h = refl
+within-more k l h = all-later k (rules.terms_of (as_rule l)) h
 
 all-within : (k : ℕ) (ls : List Line) → list_all (is_within k) ls ≡ true → list_all (is_within (suc k)) ls ≡ true
 all-within k [] h = refl
