@@ -1,13 +1,12 @@
 -- Derivations line by line.
 use Rattle.std.proofs.Common.{◌≡◌, ℕ, true, is_ok, Result, Ok, Err, Option, Some, None, refl, sym, ◌∙◌, ap}
 use Rattle.lt_definitions.specs.Typing.{with_ok}
-use Rattle.lt_definitions.specs.Rules.{missing_line, line_at, with_line, with_found}
+use Rattle.lt_definitions.specs.Rules.{MissingLine, line_at, with_line, with_found}
 use Rattle.lt_nameless.specs.Nameless.{NamelessSequent}
 use Rattle.lt_nameless.specs.NamelessRules.{NamelessOutcome}
 use Rattle.lt_hol.specs.declared.line.Line.{Line}
 use Rattle.lt_kernel.specs.declared.rule_fault.RuleFault.{RuleFault}
 use Rattle.lt_kernel.specs.declared.rule_fault.RuleFault.TheVariants.{Bad, Duplicate, Memory}
-use Rattle.lt_kernel.specs.Reasons.{reason_of}
 use Rattle.lt_kernel.specs.Sequents.{sequent_at}
 use Rattle.lt_kernel.specs.State.{State, sequents, AddsLine, Answers}
 use Rattle.lt_kernel.specs.Reaching.{Holds, IsGiven, Reaches}
@@ -43,22 +42,22 @@ reached-memory s Memory outcome q h d = refl
 pub next-holds : (now next : State) (n m : ℕ) (f g : NamelessSequent → NamelessOutcome) (whole : NamelessOutcome)
     → Holds now n (λ s. with_ok (f s) g) whole → IsGiven next m (with_line (sequents now) n f) → Holds next m g whole
 next-holds now next n m f g whole h a =
-    let first : f h.sequent ≡ Ok a.sequent = sym (ap (λ o. with_found missing_line o f) h.line) ∙ a.goes in
+    let first : f h.sequent ≡ Ok a.sequent = sym (ap (λ o. with_found MissingLine o f) h.line) ∙ a.goes in
     record { sequent = a.sequent; line = a.line; goes = h.goes ∙ ap (λ o. with_ok o g) first }
 
 -- .. or gives none
 pub next-fails : (now next : State) (n : ℕ) (e : RuleFault) (f g : NamelessSequent → NamelessOutcome) (whole : NamelessOutcome)
     → Holds now n (λ s. with_ok (f s) g) whole → Reaches next (Err e) (with_line (sequents now) n f) → Reaches next (Err e) whole
 next-fails now next n (Bad r) f g whole h a =
-    let first : f h.sequent ≡ Err (reason_of r) = sym (ap (λ o. with_found missing_line o f) h.line) ∙ a in
+    let first : f h.sequent ≡ Err r = sym (ap (λ o. with_found MissingLine o f) h.line) ∙ a in
     h.goes ∙ ap (λ o. with_ok o g) first
 next-fails now next n (Duplicate l) f g whole h a = absurd a
 next-fails now next n Memory f g whole h a = tt
 
 -- a line to begin with
 pub begins : (s : State) (n : ℕ) (q : NamelessSequent) (f : NamelessSequent → NamelessOutcome) → line_at (sequents s) n ≡ Some q → Holds s n f (with_line (sequents s) n f)
-begins s n q f e = record { sequent = q; line = e; goes = ap (λ o. with_found missing_line o f) e }
+begins s n q f e = record { sequent = q; line = e; goes = ap (λ o. with_found MissingLine o f) e }
 
 -- no line to begin with
-pub lacks : (s : State) (n : ℕ) (f : NamelessSequent → NamelessOutcome) → line_at (sequents s) n ≡ None → with_line (sequents s) n f ≡ Err missing_line
-lacks s n f e = ap (λ o. with_found missing_line o f) e
+pub lacks : (s : State) (n : ℕ) (f : NamelessSequent → NamelessOutcome) → line_at (sequents s) n ≡ None → with_line (sequents s) n f ≡ Err MissingLine
+lacks s n f e = ap (λ o. with_found MissingLine o f) e

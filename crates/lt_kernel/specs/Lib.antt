@@ -1,4 +1,3 @@
-pub mod Reasons
 pub mod Sequents
 pub mod Lines
 pub mod State

@@ -5,7 +5,6 @@ use Rattle.lt_nameless.specs.Nameless.{NamelessSequent}
 use Rattle.lt_nameless.specs.NamelessRules.{NamelessOutcome}
 use Rattle.lt_kernel.specs.declared.rule_fault.RuleFault.{RuleFault}
 use Rattle.lt_kernel.specs.declared.rule_fault.RuleFault.TheVariants.{Bad, Duplicate, Memory}
-use Rattle.lt_kernel.specs.Reasons.{reason_of}
 use Rattle.lt_kernel.specs.State.{State, sequents}
 
 -- The line has a sequent, from which the rest of a derivation gives what the whole gives.
@@ -21,6 +20,6 @@ IsGiven now n whole = Holds now n (λ s. Ok s) whole
 -- The line answered has the sequent that is given, or none is given, for this reason. Want of memory may come at any growth.
 abbrev pub Reaches : State → Result ℕ RuleFault → NamelessOutcome → Type 0
 Reaches now (Ok n) whole = IsGiven now n whole
-Reaches now (Err (Bad r)) whole = whole ≡ Err (reason_of r)
+Reaches now (Err (Bad r)) whole = whole ≡ Err r
 Reaches now (Err (Duplicate l)) whole = ⊥
 Reaches now (Err Memory) whole = Unit {0}

@@ -4,14 +4,13 @@ use Rattle.std.specs.List.{All}
 use Rattle.lt_definitions.specs.Types.{Chars}
 use Rattle.lt_nameless.specs.Nameless.{Nameless, NamelessSequent}
 use Rattle.lt_nameless.specs.NamelessRules.{NamelessOutcome}
-use Rattle.lt_hol.specs.declared.reason.Reason.{Reason}
+use Rattle.lt_definitions.specs.declared.reason.Reason.{Reason}
 use Rattle.lt_store.specs.declared.node.Node.{Node}
 use Rattle.lt_store.specs.Trees.{tree_at, trees, AllBelow}
 use Rattle.lt_kernel.specs.declared.sequent.Sequent.{Sequent}
 use Rattle.lt_kernel.specs.declared.sequent.Step.{Step}
 use Rattle.lt_kernel.specs.declared.rule_fault.RuleFault.{RuleFault}
 use Rattle.lt_kernel.specs.declared.rule_fault.RuleFault.TheVariants.{Bad, Duplicate, Memory}
-use Rattle.lt_kernel.specs.Reasons.{reason_of}
 
 -- the sequent of terms for which a sequent of ids stands
 abbrev pub sequent_at : List Node → Sequent → NamelessSequent
@@ -37,7 +36,7 @@ NamedWithin n named = All (λ p. p.1 < n) named
 
 -- The fault is why the outcome has no sequent, or want of memory, which may come at any growth.
 abbrev pub IsFaultOf : RuleFault → NamelessOutcome → Type 0
-IsFaultOf (Bad r) outcome = outcome ≡ Err (reason_of r)
+IsFaultOf (Bad r) outcome = outcome ≡ Err r
 IsFaultOf (Duplicate l) outcome = ⊥
 IsFaultOf Memory outcome = Unit {0}
 

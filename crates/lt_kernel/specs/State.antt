@@ -11,7 +11,6 @@ use Rattle.lt_store.specs.Trees.{Extends}
 use Rattle.lt_kernel.specs.declared.sequent.Step.{Step}
 use Rattle.lt_kernel.specs.declared.rule_fault.RuleFault.{RuleFault}
 use Rattle.lt_kernel.specs.declared.rule_fault.RuleFault.TheVariants.{Bad, Duplicate, Memory}
-use Rattle.lt_kernel.specs.Reasons.{reason_of}
 use Rattle.lt_kernel.specs.Sequents.{sequent_at, sequents_at, statements_at}
 use Rattle.lt_kernel.specs.Lines.{rule_at}
 
@@ -61,7 +60,7 @@ pub record AddsLine (old new : State) (by : Line) (outcome : NamelessOutcome) (n
 -- The line was added with what its rule gives, or its rule gives nothing, for the first reason that is answered, and all stays.
 abbrev pub Answers : State → State → Line → Result ℕ RuleFault → NamelessOutcome → Type 0
 Answers old new line (Ok n) outcome = AddsLine old new line outcome n
-Answers old new line (Err (Bad r)) outcome = (outcome ≡ Err (reason_of r)) × Keeps old new
+Answers old new line (Err (Bad r)) outcome = (outcome ≡ Err r) × Keeps old new
 Answers old new line (Err (Duplicate l)) outcome = ⊥
 Answers old new line (Err Memory) outcome = Keeps old new
 

@@ -4,7 +4,7 @@ ghost use Rattle.std.specs.List.{list_any};
 ghost use Rattle.lt_definitions.specs.Types.{bool};
 ghost use Rattle.lt_definitions.specs.Rules.{line_at};
 ghost use Rattle.lt_nameless.specs.NamelessRules.{nameless_fault, nameless_as_equation, nameless_as_implication, nameless_as_forall, nameless_has_type, nameless_has_free, same_nameless};
-ghost use Rattle.lt_hol.specs.declared.reason.Reason.TheVariants as reason;
+ghost use Rattle.lt_definitions.specs.declared.reason.Reason.TheVariants as reason;
 ghost use Rattle.lt_store.specs.Trees.{tree_at, trees, AllBelow, Extends};
 ghost use Rattle.lt_kernel.specs.Sequents.{sequent_at, sequents_at, AreWithin, IsWithin, Finds, Tests};
 

@@ -1,5 +1,6 @@
 use Rattle.std.proofs.Common.{sym}
-use Rattle.lt_kernel.proofs.Outcomes.{gives-later, cong-gives}
+use Rattle.lt_nameless.proofs.NamelessRuleLemmas.{cong-gives}
+use Rattle.lt_kernel.proofs.Outcomes.{gives-later}
 use Rattle.lt_kernel.proofs.applying.cong.Goals as goal
 
 pub returns-clause-step : goal.returns-clause-step

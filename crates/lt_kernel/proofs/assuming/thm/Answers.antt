@@ -2,8 +2,9 @@ use Rattle.std.proofs.Common.{◌≡◌, ◌∙◌, refl, sym, ap, Some, None}
 use Rattle.std.specs.Option.{option_map}
 use Rattle.lt_definitions.specs.Types.{found}
 use Rattle.lt_store.specs.Trees.{tree_at}
-use Rattle.lt_types.proofs.Substitutions.{looked_up}
-use Rattle.lt_kernel.proofs.Outcomes.{missing-on, found-on, gives-alone}
+use Rattle.lt_types.proofs.MapLemmas.{looked_up}
+use Rattle.lt_definitions.proofs.RuleLemmas.{missing-on, found-on}
+use Rattle.lt_kernel.proofs.Outcomes.{gives-alone}
 use Rattle.lt_kernel.proofs.NamedIds.{found-statement, found-within}
 use Rattle.lt_kernel.proofs.assuming.thm.Goals as goal
 

@@ -1,7 +1,8 @@
 use Rattle.std.proofs.Common.{◌∙◌, ap}
 use Rattle.lt_nameless.specs.NamelessRules.{nameless_equation}
 use Rattle.lt_store.specs.Trees.{tree_at}
-use Rattle.lt_kernel.proofs.Outcomes.{gives-later, iff-gives}
+use Rattle.lt_nameless.proofs.NamelessRuleLemmas.{iff-gives}
+use Rattle.lt_kernel.proofs.Outcomes.{gives-later}
 use Rattle.lt_kernel.proofs.equating.iff.Goals as goal
 
 pub returns-clause-step : goal.returns-clause-step

@@ -1,4 +1,5 @@
-use Rattle.lt_kernel.proofs.Outcomes.{gives-later, trans-gives}
+use Rattle.lt_nameless.proofs.NamelessRuleLemmas.{trans-gives}
+use Rattle.lt_kernel.proofs.Outcomes.{gives-later}
 use Rattle.lt_kernel.proofs.equating.trans.Goals as goal
 
 pub returns-clause-step : goal.returns-clause-step

@@ -1,4 +1,5 @@
-use Rattle.lt_kernel.proofs.Outcomes.{gives-later, impI-gives}
+use Rattle.lt_nameless.proofs.NamelessRuleLemmas.{impI-gives}
+use Rattle.lt_kernel.proofs.Outcomes.{gives-later}
 use Rattle.lt_kernel.proofs.implying.impI.Goals as goal
 
 pub returns-clause-step : goal.returns-clause-step

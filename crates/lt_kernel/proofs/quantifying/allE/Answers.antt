@@ -1,6 +1,7 @@
 use Rattle.std.proofs.Common.{ap}
 use Rattle.lt_store.specs.Trees.{trees}
-use Rattle.lt_kernel.proofs.Outcomes.{gives-later, allE-gives}
+use Rattle.lt_nameless.proofs.NamelessRuleLemmas.{allE-gives}
+use Rattle.lt_kernel.proofs.Outcomes.{gives-later}
 use Rattle.lt_kernel.proofs.quantifying.allE.Goals as goal
 
 pub returns-clause-step : goal.returns-clause-step

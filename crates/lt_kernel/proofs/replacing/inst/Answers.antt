@@ -1,6 +1,7 @@
 use Rattle.lt_store.specs.Trees.{tree_at}
 use Rattle.lt_store.proofs.Trees.{tree_at-extends}
-use Rattle.lt_kernel.proofs.Outcomes.{gives-later, inst-gives}
+use Rattle.lt_nameless.proofs.NamelessRuleLemmas.{inst-gives}
+use Rattle.lt_kernel.proofs.Outcomes.{gives-later}
 use Rattle.lt_kernel.proofs.replacing.inst.Goals as goal
 
 pub returns-clause-step : goal.returns-clause-step

@@ -1,5 +1,6 @@
 use Rattle.lt_store.proofs.Trees.{tree_at-extends}
-use Rattle.lt_kernel.proofs.Outcomes.{gives-later, tinst-gives}
+use Rattle.lt_nameless.proofs.NamelessRuleLemmas.{tinst-gives}
+use Rattle.lt_kernel.proofs.Outcomes.{gives-later}
 use Rattle.lt_kernel.proofs.replacing.tinst.Goals as goal
 
 pub returns-clause-step : goal.returns-clause-step
