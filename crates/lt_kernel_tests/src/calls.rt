@@ -3,8 +3,8 @@ ghost use Rattle.std.specs.Prelude.{◌<◌, length, IfOk};
 
 use crate::lines::{declare_constant, declare_type, declared, put, same};
 use crate::machine::{name, parts, plain_type};
-use lt_hol::{Line, List};
-use lt_kernel::{Proof, ProofMark, RuleFault};
+use lt_hol::{Line, List, TyMap};
+use lt_kernel::{Proof, ProofMark, RuleFault, sure};
 use lt_store::{Id, PlainStore, TermStore, View};
 use std::alloc::Global;
 use std::process::Abort;
@@ -202,5 +202,76 @@ fn stores<S: TermStore + Drop>(
     assert!(rt; is);
     viewed(alloc, rt, proof)?;
     assert_eq!(rt; proof.store().len(), proof.len());
+    Ok(())
+}
+
+#[test]
+fn a_proof_passes_over_its_own_terms(rt: HostRuntime) -> Result<(), Fail> {
+    let alloc = rt.alloc();
+    let mut proof = declared(alloc, PlainStore::new(alloc))?;
+    closes_and_opens(alloc, &rt, &mut proof)?;
+    puts_types(alloc, &rt, &mut proof)
+}
+
+/// A variable that is closed and opened by a constant is that constant. Closed with its binder it is the identity.
+fn closes_and_opens<S: TermStore + Drop>(
+    alloc: Global,
+    rt: &impl Abort,
+    proof: &mut Proof<S>,
+) -> Result<(), Fail> {
+    let x = id(alloc, proof, "Bx")?;
+    let p = id(alloc, proof, "p")?;
+    assert!(rt; x < proof.len() && p < proof.len());
+    let variable = name(alloc, "x")?;
+    let bool = plain_type(alloc, "bool")?;
+    let body = proof.abstract_free(alloc, x, &variable, &bool)?;
+    assert!(rt; p < proof.len());
+    let opened = proof.instantiate(alloc, body, p)?;
+    let is = same(alloc, proof, opened, p)?;
+    assert!(rt; is && x < proof.len());
+    let closed = proof.close(alloc, &variable, &bool, x)?;
+    let wanted = id(alloc, proof, "uBU")?;
+    let is_identity = same(alloc, proof, closed, wanted)?;
+    assert!(rt; is_identity);
+    Ok(())
+}
+
+/// A variable at another type.
+fn puts_types<S: TermStore + Drop>(
+    alloc: Global,
+    rt: &impl Abort,
+    proof: &mut Proof<S>,
+) -> Result<(), Fail> {
+    let x = id(alloc, proof, "Ax")?;
+    let mut by = TyMap::new(alloc);
+    by.put(alloc, name(alloc, "a")?, plain_type(alloc, "bool")?)?;
+    let made = proof.put_types(alloc, x, &by)?;
+    let wanted = id(alloc, proof, "Bx")?;
+    let is = same(alloc, proof, made, wanted)?;
+    assert!(rt; is);
+    Ok(())
+}
+
+#[test]
+fn a_sure_line_is_there(rt: HostRuntime) -> Result<(), Fail> {
+    let alloc = rt.alloc();
+    let mut proof = declared(alloc, PlainStore::new(alloc))?;
+    is_sure(alloc, &rt, &mut proof)
+}
+
+/// An equation, whose conclusion is looked at.
+fn is_sure<S: TermStore + Drop>(
+    alloc: Global,
+    rt: &impl Abort,
+    proof: &mut Proof<S>,
+) -> Result<(), Fail> {
+    let (_, term) = parts(alloc, "p")?;
+    let p = put(alloc, proof, &term)?;
+    let number = sure::refl(alloc, proof, p)?;
+    let said = proof.conclusion(number);
+    let is_next = proof.is_line(number + 1);
+    let wanted = id(alloc, proof, "B=p.p.")?;
+    let is = same(alloc, proof, said, wanted)?;
+    assert!(rt; is && !is_next);
     Ok(())
 }

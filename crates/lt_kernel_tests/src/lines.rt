@@ -96,19 +96,6 @@ pub fn derive<S: TermStore + Drop>(
     derive_from(alloc, proof, rule, x, ty, &term, i, j)
 }
 
-/// What a line gives whose rule is given a term and perhaps an earlier line.
-pub fn derive_of<S: TermStore + Drop>(
-    alloc: Global,
-    proof: &mut Proof<S>,
-    rule: &str,
-    term: &Term,
-    i: usize,
-) -> Result<Result<usize, RuleFault>, Fail> {
-    let x = name(alloc, "x")?;
-    let ty = Ty::bool(alloc)?;
-    derive_from(alloc, proof, rule, x, ty, term, i, 0)
-}
-
 fn derive_from<S: TermStore + Drop>(
     alloc: Global,
     proof: &mut Proof<S>,
