@@ -1,6 +1,7 @@
 -- Proofs that grow: from none to any number of calls.
 use Rattle.std.proofs.Common.{◌≡◌, ℕ, List, [], ◌∷◌, ◌++◌, Result, Ok, Err, Some, None, refl, sym, ◌∙◌, ap, subst}
 use Rattle.std.specs.List.{All}
+use Rattle.std.proofs.lemmas.List.{map-append}
 use Rattle.std.proofs.lemmas.List.Elements.{All-append, All-cons, All-nil}
 use Rattle.lt_definitions.specs.Types.{Chars}
 use Rattle.lt_definitions.specs.Typing.{Signature}
@@ -10,6 +11,7 @@ use Rattle.lt_nameless.specs.Nameless.{Nameless, NamelessSequent}
 use Rattle.lt_nameless.specs.NamelessRules.{NamelessOutcome, IsBooleanNameless, IsBooleanNamelessSequent}
 use Rattle.lt_nameless.proofs.NamelessBooleans.{nameless_rules_keep_booleans}
 use Rattle.lt_hol.specs.declared.line.Line.{Line}
+use Rattle.lt_store.specs.Trees.{tree_at}
 use Rattle.lt_store.proofs.Trees.{extends_same, extends_on}
 use Rattle.lt_kernel.specs.declared.sequent.Step.{Step}
 use Rattle.lt_kernel.specs.declared.rule_fault.RuleFault.{RuleFault}
@@ -63,18 +65,34 @@ sound-from s sig named done e d f h =
         subst (λ (x : Signature). AreSound x (statements s) (sequents s)) (sym e)
         (subst (λ (x : List (Chars × Nameless)). AreSound sig x (sequents s)) (sym d)
         (subst (λ (x : List NamelessSequent). AreSound sig named x) (sym f) h)) in
-    record { signature = at.0; statements = at.1.0; lines = at.1.1 }
+    record { signature = at.0; statements = at.1; lines = at.2 }
 
 -- nothing is stated and derived over sound declarations
 pub sound-new : (s : State) → IsSoundSignature s.signature → statements s ≡ [] → sequents s ≡ [] → IsSound s
-sound-new s h d f = sound-from s s.signature [] [] refl d f (h, (All-nil _, All-nil _))
+sound-new s h d f = sound-from s s.signature [] [] refl d f (h, All-nil _, All-nil _)
+
+-- .. and stays so where the lines are dropped, or a boolean statement is named
+pub sound-cleared : (old new : State) → new ≡ record old { steps = [] } → IsSound old → IsSound new
+sound-cleared old new e h = subst IsSound (sym e) (record { signature = h.signature; statements = h.statements; lines = All-nil _ })
+
+pub sound-named : (old new : State) (label : Chars) (id : ℕ) → new ≡ record old { named = old.named ++ (label, id) ∷ [] }
+    → IsBooleanNameless old.signature (tree_at old.nodes id) → IsSound old → IsSound new
+sound-named old new label id e b h =
+    let P : Chars × Nameless → Type 0 = λ p. IsBooleanNameless old.signature p.1 in
+    let one : Chars × Nameless = (label, tree_at old.nodes id) in
+    let is = map-append (λ (p : Chars × ℕ). (p.0, tree_at old.nodes p.1)) old.named ((label, id) ∷ []) in
+    subst IsSound (sym e) (record {
+      signature = h.signature;
+      statements = subst (λ (ss : List (Chars × Nameless)). All P ss) (sym is) (All-append P (statements old) (one ∷ []) h.statements (All-cons P one [] b (All-nil P)));
+      lines = h.lines;
+    })
 
 pub keeps-grows : (old new : State) → Keeps old new → Grows old new
 keeps-grows old new k = record {
   stays = k.stays;
   steps = λ n s e. ap (λ ss. line_at ss n) k.steps ∙ e;
   lines = λ n s e. ap (λ ss. line_at ss n) k.sequents ∙ e;
-  sound = λ h. sound-from new old.signature (statements old) (sequents old) k.stays.signature k.stays.statements k.sequents (h.signature, (h.statements, h.lines));
+  sound = λ h. sound-from new old.signature (statements old) (sequents old) k.stays.signature k.stays.statements k.sequents (h.signature, h.statements, h.lines);
 }
 
 pub adds-grows : (old new : State) (by : Line) (n : ℕ) → IsGoodLine old.signature old.nodes by → AddsLine old new by (step_of old by) n → Grows old new
@@ -87,7 +105,7 @@ adds-grows old new by n good a =
           let last = nameless_rules_keep_booleans old.signature (statements old) (sequents old) (rule_at old.nodes by) one h.signature h.statements h.lines good.typed a.gives in
           let P : NamelessSequent → Type 0 = IsBooleanNamelessSequent old.signature in
           sound-from new old.signature (statements old) (sequents old ++ one ∷ []) a.stays.signature a.stays.statements a.sequents
-          (h.signature, (h.statements, All-append P (sequents old) (one ∷ []) h.lines (All-cons P one [] last (All-nil P))));
+          (h.signature, h.statements, All-append P (sequents old) (one ∷ []) h.lines (All-cons P one [] last (All-nil P)));
     }
 
 pub answers-grows : (old new : State) (by : Line) (r : Result ℕ RuleFault) → IsGoodLine old.signature old.nodes by → Answers old new by r (step_of old by) → Grows old new

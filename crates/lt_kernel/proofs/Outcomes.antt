@@ -28,10 +28,10 @@ test-fails (Duplicate l) r b g h = absurd h
 test-fails Memory r b g h = tt
 
 -- .. also behind what was found, or a test that held
-pub fails-on-found : {A : Type 0} (e : RuleFault) (r : rules.Reason) (o : Option A) (x : A) (f : A → NamelessOutcome) → o ≡ Some x → IsFaultOf e (f x) → IsFaultOf e (with_found r o f)
+pub fails-on-found : {A : Type 0} (e : RuleFault) (r : Reason) (o : Option A) (x : A) (f : A → NamelessOutcome) → o ≡ Some x → IsFaultOf e (f x) → IsFaultOf e (with_found r o f)
 fails-on-found e r o x f is h = subst (λ p. IsFaultOf e (with_found r p f)) (sym is) h
 
-pub fails-on-test : (e : RuleFault) (b : Bool) (r : rules.Reason) (o : NamelessOutcome) → b ≡ true → IsFaultOf e o → IsFaultOf e (where_holds b r o)
+pub fails-on-test : (e : RuleFault) (b : Bool) (r : Reason) (o : NamelessOutcome) → b ≡ true → IsFaultOf e o → IsFaultOf e (where_holds b r o)
 fails-on-test e b r o is h = subst (λ c. IsFaultOf e (where_holds c r o)) (sym is) h
 
 -- the sequent that was made

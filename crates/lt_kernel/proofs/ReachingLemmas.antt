@@ -1,7 +1,8 @@
 -- Derivations line by line.
 use Rattle.std.proofs.Common.{◌≡◌, ℕ, true, is_ok, Result, Ok, Err, Option, Some, None, refl, sym, ◌∙◌, ap}
 use Rattle.lt_definitions.specs.Typing.{with_ok}
-use Rattle.lt_definitions.specs.Rules.{MissingLine, line_at, with_line, with_found}
+use Rattle.lt_definitions.specs.declared.reason.Reason.TheVariants.{MissingLine}
+use Rattle.lt_definitions.specs.Rules.{line_at, with_line, with_found}
 use Rattle.lt_nameless.specs.Nameless.{NamelessSequent}
 use Rattle.lt_nameless.specs.NamelessRules.{NamelessOutcome}
 use Rattle.lt_hol.specs.declared.line.Line.{Line}

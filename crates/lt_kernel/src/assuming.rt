@@ -29,7 +29,8 @@ pub(crate) fn assume<S: TermStore>(
     Ok(Sequent { hyps, concl: p })
 }
 
-/// From `H |- q`: `H, p |- q`. Derivable by `assume`, `impI` and `mp`, but included for short derivations.
+/// From `H |- q`: `H, p |- q`. Derivable by `impI`, `assume` and `mp`, up to the order of hypotheses, but included for
+/// short derivations.
 pub(crate) fn weaken<S: TermStore>(
     alloc: Global,
     store: &S,

@@ -27,6 +27,7 @@ pub(crate) fn abs<S: TermStore>(
 {
     let from = line_at(store, done, i)?;
     let sides = equation_of(alloc, store, from.concl)?;
+    // A hypothesis on x speaks of one x, and the conclusion would of each.
     check_absent(alloc, store, &from.hyps, x, ty)?;
     let hyps = from.hyps.copy(alloc)?;
     let concl = mk_closed_equation(alloc, store, x, ty, sides.ty, sides.left, sides.right)?;
@@ -70,6 +71,7 @@ pub(crate) fn eta<S: TermStore>(
         return Err(RuleFault::Bad(Reason::NotRedex));
     };
     let ty = type_of(alloc, store, sig, t)?;
+    // A function that has the bound name is another one for each argument.
     if has_loose(alloc, store, function)? {
         return Err(RuleFault::Bad(Reason::NotRedex));
     }

@@ -64,6 +64,7 @@ pub(crate) fn trans<S: TermStore>(
     let second = line_at(store, done, j)?;
     let one = equation_of(alloc, store, first.concl)?;
     let other = equation_of(alloc, store, second.concl)?;
+    // The first ends where the second begins: else any two equations would give r = t.
     meet(alloc, store, one.right, other.left)?;
     let hyps = union(alloc, store, &first.hyps, &second.hyps)?;
     let concl = mk_equation(alloc, store, one.ty, one.left, other.right)?;
@@ -84,6 +85,7 @@ pub(crate) fn eqmp<S: TermStore>(
     let major = line_at(store, done, i)?;
     let minor = line_at(store, done, j)?;
     let sides = equation_of(alloc, store, major.concl)?;
+    // What is known is the left side: an equation isn't turned on the way.
     meet(alloc, store, sides.left, minor.concl)?;
     let hyps = union(alloc, store, &major.hyps, &minor.hyps)?;
     Ok(Sequent {
@@ -92,7 +94,8 @@ pub(crate) fn eqmp<S: TermStore>(
     })
 }
 
-/// From `H |- p --> q` and `K |- q --> p`: `H, K |- p = q`
+/// From `H |- p --> q` and `K |- q --> p`: `H, K |- p = q`. Nothing else makes an equation of truth values that imply
+/// each other.
 pub(crate) fn iff<S: TermStore>(
     alloc: Global,
     store: &mut S,
@@ -108,6 +111,7 @@ pub(crate) fn iff<S: TermStore>(
     let second = line_at(store, done, j)?;
     let (p, q) = implication_of(store, first.concl)?;
     let (r, s) = implication_of(store, second.concl)?;
+    // Both, since either alone would make two implications of one side an equation.
     meet(alloc, store, p, s)?;
     meet(alloc, store, q, r)?;
     let ty = Ty::bool(alloc)?;

@@ -48,6 +48,7 @@ pub(crate) fn mp<S: TermStore>(
     let major = line_at(store, done, i)?;
     let minor = line_at(store, done, j)?;
     let (p, q) = implication_of(store, major.concl)?;
+    // The premise itself has to be known, up to names of binders.
     meet(alloc, store, p, minor.concl)?;
     let hyps = union(alloc, store, &major.hyps, &minor.hyps)?;
     Ok(Sequent { hyps, concl: q })

@@ -26,6 +26,7 @@ pub(crate) fn allI<S: TermStore>(
     ensures step { Gives (S.nodes store.new) result (nameless_allI_gives (sequents_at (S.nodes store.old) done.now) x.now ty.now i) }
 {
     let from = line_at(store, done, i)?;
+    // A hypothesis on x speaks of one x, and the conclusion would of each.
     check_absent(alloc, store, &from.hyps, x, ty)?;
     let hyps = from.hyps.copy(alloc)?;
     let concl = mk_closed_for_all(alloc, store, x, ty, from.concl)?;
@@ -49,6 +50,7 @@ pub(crate) fn allE<S: TermStore>(
 {
     let from = line_at(store, done, i)?;
     let all = forall_of(alloc, store, from.concl)?;
+    // The statement is of all terms of this type alone.
     check_type(alloc, store, sig, t, &all.ty)?;
     let hyps = from.hyps.copy(alloc)?;
     let concl = mk_at(alloc, store, all.predicate, t)?;

@@ -30,6 +30,7 @@ pub(crate) fn inst<S: TermStore>(
     ensures step { Gives (S.nodes store.new) result (nameless_inst_gives sig.now (sequents_at (S.nodes store.old) done.now) x.now ty.now (tree_at (S.nodes store.old) t) i) }
 {
     let from = line_at(store, done, i)?;
+    // A term of another type would leave an untyped sequent.
     check_type(alloc, store, sig, t, ty)?;
     let each = replace_free(alloc, store, from.hyps.as_slice(), x, ty, t)?;
     let hyps = union(alloc, store, &Ids::new(alloc), &each)?;
