@@ -8,6 +8,7 @@ ghost use Rattle.lt_hol.specs.declared.line.Line.TheVariants as line;
 ghost use Rattle.lt_store.specs.Trees.{tree_at};
 ghost use Rattle.lt_kernel.specs.State.{sequents, statements, Answers};
 ghost use Rattle.lt_kernel.specs.Growing.{Carries};
+ghost use Rattle.lt_kernel.specs.Reaching.{Reaches};
 
 use crate::proof::Proof;
 use crate::rule_fault::RuleFault;
@@ -21,6 +22,7 @@ impl<S: TermStore + Drop> Proof<S> {
         requires p { p < length self.old.nodes }
         requires typed { nameless_fault self.old.signature (tree_at self.old.nodes p) ≡ None }
         ensures answers { Answers self.old self.new (line.Assume p) result (nameless_assume_gives self.old.signature (tree_at self.old.nodes p)) }
+        ensures reaches { Reaches self.new result (nameless_assume_gives self.old.signature (tree_at self.old.nodes p)) }
         ensures carries { Carries self.old self.new }
     {
         self.apply(alloc, &Line::Assume(p))
@@ -31,6 +33,7 @@ impl<S: TermStore + Drop> Proof<S> {
         requires p { p < length self.old.nodes }
         requires typed { nameless_fault self.old.signature (tree_at self.old.nodes p) ≡ None }
         ensures answers { Answers self.old self.new (line.Weaken p i) result (nameless_weaken_gives self.old.signature (sequents self.old) (tree_at self.old.nodes p) i) }
+        ensures reaches { Reaches self.new result (nameless_weaken_gives self.old.signature (sequents self.old) (tree_at self.old.nodes p) i) }
         ensures carries { Carries self.old self.new }
     {
         self.apply(alloc, &Line::Weaken(p, i))
@@ -41,6 +44,7 @@ impl<S: TermStore + Drop> Proof<S> {
         requires t { t < length self.old.nodes }
         requires typed { nameless_fault self.old.signature (tree_at self.old.nodes t) ≡ None }
         ensures answers { Answers self.old self.new (line.Refl t) result (nameless_refl_gives self.old.signature (tree_at self.old.nodes t)) }
+        ensures reaches { Reaches self.new result (nameless_refl_gives self.old.signature (tree_at self.old.nodes t)) }
         ensures carries { Carries self.old self.new }
     {
         self.apply(alloc, &Line::Refl(t))
@@ -49,6 +53,7 @@ impl<S: TermStore + Drop> Proof<S> {
     /// From `H |- s = t`: `H |- t = s`. `MissingLine`, `NotEquation`.
     pub fn sym(&mut self, alloc: Global, i: usize) -> Result<usize, RuleFault>
         ensures answers { Answers self.old self.new (line.Sym i) result (nameless_sym_gives (sequents self.old) i) }
+        ensures reaches { Reaches self.new result (nameless_sym_gives (sequents self.old) i) }
         ensures carries { Carries self.old self.new }
     {
         self.apply(alloc, &Line::Sym(i))
@@ -57,6 +62,7 @@ impl<S: TermStore + Drop> Proof<S> {
     /// From `H |- r = s` and `K |- s = t`: `H, K |- r = t`. `MissingLine`, `NotEquation`, `MiddleDiffers`.
     pub fn trans(&mut self, alloc: Global, i: usize, j: usize) -> Result<usize, RuleFault>
         ensures answers { Answers self.old self.new (line.Trans i j) result (nameless_trans_gives (sequents self.old) i j) }
+        ensures reaches { Reaches self.new result (nameless_trans_gives (sequents self.old) i j) }
         ensures carries { Carries self.old self.new }
     {
         self.apply(alloc, &Line::Trans(i, j))
@@ -65,6 +71,7 @@ impl<S: TermStore + Drop> Proof<S> {
     /// From `H |- f = g` and `K |- a = b`: `H, K |- f a = g b`. `MissingLine`, `NotEquation`, `TypeDiffers`.
     pub fn cong(&mut self, alloc: Global, i: usize, j: usize) -> Result<usize, RuleFault>
         ensures answers { Answers self.old self.new (line.Cong i j) result (nameless_cong_gives (sequents self.old) i j) }
+        ensures reaches { Reaches self.new result (nameless_cong_gives (sequents self.old) i j) }
         ensures carries { Carries self.old self.new }
     {
         self.apply(alloc, &Line::Cong(i, j))
@@ -74,6 +81,7 @@ impl<S: TermStore + Drop> Proof<S> {
     pub fn abs(&mut self, alloc: Global, x: Name, ty: Ty, i: usize) -> Result<usize, RuleFault>
         requires { type_fault self.old.signature ty ≡ None }
         ensures answers { Answers self.old self.new (line.Abs x ty i) result (nameless_abs_gives (sequents self.old) x ty i) }
+        ensures reaches { Reaches self.new result (nameless_abs_gives (sequents self.old) x ty i) }
         ensures carries { Carries self.old self.new }
     {
         self.apply(alloc, &Line::Abs(x, ty, i))
@@ -84,6 +92,7 @@ impl<S: TermStore + Drop> Proof<S> {
         requires t { t < length self.old.nodes }
         requires typed { nameless_fault self.old.signature (tree_at self.old.nodes t) ≡ None }
         ensures answers { Answers self.old self.new (line.Beta t) result (nameless_beta_gives self.old.signature (tree_at self.old.nodes t)) }
+        ensures reaches { Reaches self.new result (nameless_beta_gives self.old.signature (tree_at self.old.nodes t)) }
         ensures carries { Carries self.old self.new }
     {
         self.apply(alloc, &Line::Beta(t))
@@ -94,6 +103,7 @@ impl<S: TermStore + Drop> Proof<S> {
         requires t { t < length self.old.nodes }
         requires typed { nameless_fault self.old.signature (tree_at self.old.nodes t) ≡ None }
         ensures answers { Answers self.old self.new (line.Eta t) result (nameless_eta_gives self.old.signature (tree_at self.old.nodes t)) }
+        ensures reaches { Reaches self.new result (nameless_eta_gives self.old.signature (tree_at self.old.nodes t)) }
         ensures carries { Carries self.old self.new }
     {
         self.apply(alloc, &Line::Eta(t))
@@ -102,6 +112,7 @@ impl<S: TermStore + Drop> Proof<S> {
     /// From `H |- p = q` and `K |- p`: `H, K |- q`. `MissingLine`, `NotEquation`, `MiddleDiffers`.
     pub fn eqmp(&mut self, alloc: Global, i: usize, j: usize) -> Result<usize, RuleFault>
         ensures answers { Answers self.old self.new (line.Eqmp i j) result (nameless_eqmp_gives (sequents self.old) i j) }
+        ensures reaches { Reaches self.new result (nameless_eqmp_gives (sequents self.old) i j) }
         ensures carries { Carries self.old self.new }
     {
         self.apply(alloc, &Line::Eqmp(i, j))
@@ -112,6 +123,7 @@ impl<S: TermStore + Drop> Proof<S> {
         requires p { p < length self.old.nodes }
         requires typed { nameless_fault self.old.signature (tree_at self.old.nodes p) ≡ None }
         ensures answers { Answers self.old self.new (line.ImpI p i) result (nameless_impI_gives self.old.signature (sequents self.old) (tree_at self.old.nodes p) i) }
+        ensures reaches { Reaches self.new result (nameless_impI_gives self.old.signature (sequents self.old) (tree_at self.old.nodes p) i) }
         ensures carries { Carries self.old self.new }
     {
         self.apply(alloc, &Line::ImpI(p, i))
@@ -120,6 +132,7 @@ impl<S: TermStore + Drop> Proof<S> {
     /// From `H |- p --> q` and `K |- p`: `H, K |- q`. `MissingLine`, `NotImplication`, `MiddleDiffers`.
     pub fn mp(&mut self, alloc: Global, i: usize, j: usize) -> Result<usize, RuleFault>
         ensures answers { Answers self.old self.new (line.Mp i j) result (nameless_mp_gives (sequents self.old) i j) }
+        ensures reaches { Reaches self.new result (nameless_mp_gives (sequents self.old) i j) }
         ensures carries { Carries self.old self.new }
     {
         self.apply(alloc, &Line::Mp(i, j))
@@ -129,6 +142,7 @@ impl<S: TermStore + Drop> Proof<S> {
     pub fn allI(&mut self, alloc: Global, x: Name, ty: Ty, i: usize) -> Result<usize, RuleFault>
         requires { type_fault self.old.signature ty ≡ None }
         ensures answers { Answers self.old self.new (line.AllI x ty i) result (nameless_allI_gives (sequents self.old) x ty i) }
+        ensures reaches { Reaches self.new result (nameless_allI_gives (sequents self.old) x ty i) }
         ensures carries { Carries self.old self.new }
     {
         self.apply(alloc, &Line::AllI(x, ty, i))
@@ -139,6 +153,7 @@ impl<S: TermStore + Drop> Proof<S> {
         requires t { t < length self.old.nodes }
         requires typed { nameless_fault self.old.signature (tree_at self.old.nodes t) ≡ None }
         ensures answers { Answers self.old self.new (line.AllE t i) result (nameless_allE_gives self.old.signature (sequents self.old) (tree_at self.old.nodes t) i) }
+        ensures reaches { Reaches self.new result (nameless_allE_gives self.old.signature (sequents self.old) (tree_at self.old.nodes t) i) }
         ensures carries { Carries self.old self.new }
     {
         self.apply(alloc, &Line::AllE(t, i))
@@ -147,6 +162,7 @@ impl<S: TermStore + Drop> Proof<S> {
     /// From `H |- p --> q` and `K |- q --> p`: `H, K |- p = q`. `MissingLine`, `NotImplication`, `MiddleDiffers`.
     pub fn iff(&mut self, alloc: Global, i: usize, j: usize) -> Result<usize, RuleFault>
         ensures answers { Answers self.old self.new (line.Iff i j) result (nameless_iff_gives (sequents self.old) i j) }
+        ensures reaches { Reaches self.new result (nameless_iff_gives (sequents self.old) i j) }
         ensures carries { Carries self.old self.new }
     {
         self.apply(alloc, &Line::Iff(i, j))
@@ -165,6 +181,7 @@ impl<S: TermStore + Drop> Proof<S> {
         requires t { t < length self.old.nodes }
         requires typed { nameless_fault self.old.signature (tree_at self.old.nodes t) ≡ None }
         ensures answers { Answers self.old self.new (line.Inst x ty t i) result (nameless_inst_gives self.old.signature (sequents self.old) x ty (tree_at self.old.nodes t) i) }
+        ensures reaches { Reaches self.new result (nameless_inst_gives self.old.signature (sequents self.old) x ty (tree_at self.old.nodes t) i) }
         ensures carries { Carries self.old self.new }
     {
         self.apply(alloc, &Line::Inst(x, ty, t, i))
@@ -174,6 +191,7 @@ impl<S: TermStore + Drop> Proof<S> {
     pub fn tinst(&mut self, alloc: Global, a: Name, ty: Ty, i: usize) -> Result<usize, RuleFault>
         requires { type_fault self.old.signature ty ≡ None }
         ensures answers { Answers self.old self.new (line.Tinst a ty i) result (nameless_tinst_gives (sequents self.old) a ty i) }
+        ensures reaches { Reaches self.new result (nameless_tinst_gives (sequents self.old) a ty i) }
         ensures carries { Carries self.old self.new }
     {
         self.apply(alloc, &Line::Tinst(a, ty, i))
@@ -184,6 +202,7 @@ impl<S: TermStore + Drop> Proof<S> {
         requires p { p < length self.old.nodes }
         requires typed { nameless_fault self.old.signature (tree_at self.old.nodes p) ≡ None }
         ensures answers { Answers self.old self.new (line.Select p) result (nameless_select_gives self.old.signature (tree_at self.old.nodes p)) }
+        ensures reaches { Reaches self.new result (nameless_select_gives self.old.signature (tree_at self.old.nodes p)) }
         ensures carries { Carries self.old self.new }
     {
         self.apply(alloc, &Line::Select(p))
@@ -194,6 +213,7 @@ impl<S: TermStore + Drop> Proof<S> {
         requires p { p < length self.old.nodes }
         requires typed { nameless_fault self.old.signature (tree_at self.old.nodes p) ≡ None }
         ensures answers { Answers self.old self.new (line.Ccontr p) result (nameless_ccontr_gives self.old.signature (tree_at self.old.nodes p)) }
+        ensures reaches { Reaches self.new result (nameless_ccontr_gives self.old.signature (tree_at self.old.nodes p)) }
         ensures carries { Carries self.old self.new }
     {
         self.apply(alloc, &Line::Ccontr(p))
@@ -202,6 +222,7 @@ impl<S: TermStore + Drop> Proof<S> {
     /// `|-` the statement of the label. `UnknownLabel`.
     pub fn thm(&mut self, alloc: Global, label: Name) -> Result<usize, RuleFault>
         ensures answers { Answers self.old self.new (line.Thm label) result (nameless_thm_gives (statements self.old) label) }
+        ensures reaches { Reaches self.new result (nameless_thm_gives (statements self.old) label) }
         ensures carries { Carries self.old self.new }
     {
         self.apply(alloc, &Line::Thm(label))

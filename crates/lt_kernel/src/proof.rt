@@ -10,6 +10,7 @@ ghost use Rattle.lt_kernel.specs.Lines.{IsGoodLine};
 ghost use Rattle.lt_kernel.specs.Sequents.{IsWithin};
 ghost use Rattle.lt_kernel.specs.State.{sequents, step_of, Answers, Keeps, Names};
 ghost use Rattle.lt_kernel.specs.Growing.{Carries};
+ghost use Rattle.lt_kernel.specs.Reaching.{Reaches};
 
 use crate::derive::derive;
 use crate::rule_fault::RuleFault;
@@ -94,6 +95,7 @@ impl<S: TermStore + Drop> Proof<S> {
     pub fn apply(&mut self, alloc: Global, line: &Line) -> Result<usize, RuleFault>
         requires { IsGoodLine self.old.signature self.old.nodes line.now }
         ensures answers { Answers self.old self.new line.now result (step_of self.old line.now) }
+        ensures reaches { Reaches self.new result (step_of self.old line.now) }
         ensures carries { Carries self.old self.new }
     {
         let sequent = match derive(

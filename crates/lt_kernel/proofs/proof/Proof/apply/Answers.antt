@@ -6,6 +6,7 @@ use Rattle.lt_kernel.specs.Sequents.{sequents_at, statements_at, Gives}
 use Rattle.lt_kernel.specs.State.{State, Keeps, AddsLine, Answers, step_of}
 use Rattle.lt_kernel.proofs.StateLemmas.{state, keeps, adds-line, answers-fault, answers-memory}
 use Rattle.lt_kernel.proofs.GrowingLemmas.{answers-carries}
+use Rattle.lt_kernel.proofs.ReachingLemmas.{answers-reaches}
 use Rattle.lt_kernel.proofs.proof.Proof.apply.Goals as goal
 
 pub returns-in-Err-clause-answers : goal.returns-in-Err-clause-answers
@@ -55,3 +56,12 @@ returns-in_err-number-clause-carries g c = answers-carries _ _ _ _ c.requires (r
 
 pub returns-clause-carries : goal.returns-clause-carries
 returns-clause-carries g c = answers-carries _ _ _ _ c.requires (returns-clause-answers g c)
+
+pub returns-in-Err-clause-reaches : goal.returns-in-Err-clause-reaches
+returns-in-Err-clause-reaches g c = answers-reaches _ _ _ _ _ (returns-in-Err-clause-answers g c)
+
+pub returns-in_err-number-clause-reaches : goal.returns-in_err-number-clause-reaches
+returns-in_err-number-clause-reaches g c = answers-reaches _ _ _ _ _ (returns-in_err-number-clause-answers g c)
+
+pub returns-clause-reaches : goal.returns-clause-reaches
+returns-clause-reaches g c = answers-reaches _ _ _ _ _ (returns-clause-answers g c)
