@@ -1,5 +1,5 @@
 -- Derivations line by line.
-use Rattle.std.proofs.Common.{◌≡◌, ℕ, true, is_ok, Result, Ok, Err, Option, Some, None, refl, sym, ◌∙◌, ap}
+use Rattle.std.proofs.Common.{◌≡◌, ℕ, Result, Ok, Err, Some, None, refl, sym, ◌∙◌, ap}
 use Rattle.lt_definitions.specs.Typing.{with_ok}
 use Rattle.lt_definitions.specs.declared.reason.Reason.TheVariants.{MissingLine}
 use Rattle.lt_definitions.specs.Rules.{line_at, with_line, with_found}
@@ -22,22 +22,24 @@ answers-reaches old new by (Err (Bad q)) outcome a = a.0
 answers-reaches old new by (Err (Duplicate l)) outcome a = absurd a
 answers-reaches old new by (Err Memory) outcome a = tt
 
+abbrev ok : NamelessSequent → NamelessOutcome
+ok s = Ok s
+
+ok-same : (s u : NamelessSequent) → ok s ≡ ok u → s ≡ u
+ok-same s u q = cc q
+
 -- the line of a derivation that gives a sequent
-pub given-line : (s : State) (n : ℕ) (outcome : NamelessOutcome) (q : NamelessSequent) → IsGiven s n outcome → outcome ≡ Ok q → line_at (sequents s) n ≡ Some q
-given-line s n outcome q h e = h.line ∙ ap some_of (sym h.goes ∙ e)
+pub reached-line : (s : State) (n : ℕ) (o : NamelessOutcome) (q : NamelessSequent) → IsGiven s n o → o ≡ Ok q → line_at (sequents s) n ≡ Some q
+reached-line s n o q h e = h.line ∙ ap (λ (u : NamelessSequent). Some u) (ok-same h.sequent q (sym h.goes ∙ e))
+
+-- .. which is refused for want of memory alone
+pub reached-memory : (s : State) (e : RuleFault) (o : NamelessOutcome) (q : NamelessSequent) → Reaches s (Err e) o → o ≡ Ok q → e ≡ Memory
+reached-memory s (Bad r) o q h e = absurd (ok-err q (sym e ∙ h))
   where
-    some_of : NamelessOutcome → Option NamelessSequent
-    some_of (Ok s) = Some s
-    some_of (Err r) = None
-
-pub reached-line : (s : State) (n : ℕ) (outcome : NamelessOutcome) (q : NamelessSequent) → Reaches s (Ok n) outcome → outcome ≡ Ok q → line_at (sequents s) n ≡ Some q
-reached-line s n outcome q h e = given-line s n outcome q h e
-
--- a derivation that gives a sequent is refused for want of memory alone
-pub reached-memory : (s : State) (e : RuleFault) (outcome : NamelessOutcome) (q : NamelessSequent) → Reaches s (Err e) outcome → outcome ≡ Ok q → e ≡ Memory
-reached-memory s (Bad r) outcome q h d = absurd (cc (sym d ∙ h))
-reached-memory s (Duplicate l) outcome q h d = absurd h
-reached-memory s Memory outcome q h d = refl
+    ok-err : (u : NamelessSequent) → Ok u ≡ Err r → ⊥
+    ok-err u d = cc d
+reached-memory s (Duplicate l) o q h e = absurd h
+reached-memory s Memory o q h e = refl
 
 -- what comes first has a sequent
 pub next-holds : (now next : State) (n m : ℕ) (f g : NamelessSequent → NamelessOutcome) (whole : NamelessOutcome)
