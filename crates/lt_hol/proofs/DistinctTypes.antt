@@ -10,7 +10,8 @@ use Rattle.lt_types.specs.declared.ty.TyNode.{TyNode}
 use Rattle.lt_types.specs.declared.ty.TyNode.TheVariants.{Var, Con}
 use Rattle.lt_definitions.specs.Types.{TypeTree, type_variable, type_constructor, row, listed}
 use Rattle.lt_definitions.proofs.SameNames.{listed-row, both-true, true-both}
-use Rattle.lt_hol.specs.TypeTables.{type_at, types_at, made_of, types_after, all_below, is_below, IsGrounded, IsApart, Extends}
+use Rattle.lt_hol.specs.TypeTables.{type_at, types_at, made_of, types_after, all_below, is_below, IsGrounded, IsApart, Extends, ExtendsBy}
+use Rattle.lt_hol.proofs.AddedTypes.{by-none, one-part}
 
 pub types_after-append : (ts : List TypeTree) (ms ns : List TyNode) → types_after ts (ms ++ ns) ≡ types_after (types_after ts ms) ns
 types_after-append ts [] ns = refl
@@ -145,6 +146,7 @@ pub record IsAdded (ns more : List TyNode) (n : TyNode) (id : ℕ) : Type 0 wher
   pub grounded : IsGrounded 0 more
   pub apart : IsApart (types_after [] more)
   pub grows : Extends (types_after [] ns) (types_after [] more)
+  pub added : ExtendsBy (made_of (types_after [] ns) n ∷ []) (types_after [] ns) (types_after [] more)
   pub made : slice_get (types_after [] more) id ≡ Some (made_of (types_after [] ns) n)
 
 stands : (ns : List TyNode) (id : ℕ) (n : TyNode) → IsGrounded 0 ns → slice_get ns id ≡ Some n → slice_get (types_after [] ns) id ≡ Some (made_of (types_after [] ns) n)
@@ -154,7 +156,7 @@ stands ns id n g is =
 
 module _ (eq : TyNode → TyNode → Bool) (own : (n : TyNode) → eq n n ≡ true) where
   there : (ns : List TyNode) (n : TyNode) (id : ℕ) → IsGrounded 0 ns → IsApart (types_after [] ns) → slice_get ns id ≡ Some n → IsAdded ns ns n id
-  there ns n id g apart at = record { grounded = g; apart = apart; grows = extends-refl (types_after [] ns); made = stands ns id n g at }
+  there ns n id g apart at = record { grounded = g; apart = apart; grows = extends-refl (types_after [] ns); added = by-none (made_of (types_after [] ns) n ∷ []) (types_after [] ns); made = stands ns id n g at }
 
   new-type : (ns : List TyNode) (n : TyNode) → IsGrounded 0 ns → IsApart (types_after [] ns) → is_below (length (types_after [] ns)) n ≡ true → list_any (eq n) ns ≡ false
       → (i : ℕ) → i < length (types_after [] ns) → type_at (types_after [] ns) i ≡ made_of (types_after [] ns) n → ⊥
@@ -171,6 +173,7 @@ module _ (eq : TyNode → TyNode → Bool) (own : (n : TyNode) → eq n n ≡ tr
     grounded = grounded;
     apart = subst IsApart (sym more) (apart-push (types_after [] ns) (made_of (types_after [] ns) n) apart (new-type ns n g apart below none));
     grows = record { more = made_of (types_after [] ns) n ∷ []; is = more };
+    added = record { more = made_of (types_after [] ns) n ∷ []; is = more; parts = one-part (made_of (types_after [] ns) n) };
     made = stands (ns ++ n ∷ []) id n grounded at ∙ ap Some (ap (λ ts. made_of ts n) more ∙ made_of-more (types_after [] ns) (made_of (types_after [] ns) n ∷ []) n below);
   }
     where

@@ -1,6 +1,7 @@
 pub mod TypeFaults
 pub mod LineLemmas
 pub mod NodeEquality
+pub mod AddedTypes
 pub mod DistinctTypes
 pub mod TypeNumbers
 pub mod VariableNames

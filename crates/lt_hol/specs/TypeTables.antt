@@ -1,10 +1,10 @@
 -- Types by number: a table of nodes whose arguments are numbers of the table.
 pub use Rattle.lt_types.specs.FunctionTypes.{function_parts}
-use Rattle.std.specs.Prelude.{◌≡◌, ℕ, suc, ◌<◌, List, [], ◌∷◌, ◌++◌, length, map, slice_index_or, Bool, true, nat_lt, Option, Some, None, codes, if◌then◌else◌}
+use Rattle.std.specs.Prelude.{◌≡◌, ℕ, suc, ◌<◌, List, [], ◌∷◌, ◌++◌, length, map, slice_index_or, Bool, true, false, ◌||◌, nat_lt, Option, Some, None, codes, if◌then◌else◌}
 use Rattle.std.specs.List.{list_all}
 use Rattle.lt_types.specs.declared.ty.TyNode.{TyNode}
 use Rattle.lt_types.specs.declared.ty.TyNode.TheVariants.{Var, Con}
-use Rattle.lt_definitions.specs.Types.{Chars, same_name, TypeTree, type_variable, type_constructor, row}
+use Rattle.lt_definitions.specs.Types.{Chars, same_name, same_type, TypeTree, TypeTrees, type_variable, type_constructor, no_types, type_and, row}
 
 -- the type of a number, and those of numbers
 abbrev pub type_at : List TypeTree → ℕ → TypeTree
@@ -50,6 +50,22 @@ pub record IsTable (nodes : List TyNode) (name : Chars) : Type 0 where
 pub record Extends (old new : List TypeTree) : Type 0 where
   pub more : List TypeTree
   pub is : new ≡ old ++ more
+
+-- whether a type is another, or a part of it
+abbrev mutual
+  pub is_part : TypeTree → TypeTree → Bool
+  is_part t (type_variable x) = same_type t (type_variable x)
+  is_part t (type_constructor c us) = same_type t (type_constructor c us) || is_part_of_some t us
+
+  pub is_part_of_some : TypeTree → TypeTrees → Bool
+  is_part_of_some t no_types = false
+  is_part_of_some t (type_and u us) = is_part t u || is_part_of_some t us
+
+-- The types stay, and what follows are parts of given types.
+pub record ExtendsBy (types old new : List TypeTree) : Type 0 where
+  pub more : List TypeTree
+  pub is : new ≡ old ++ more
+  pub parts : list_all (λ t. is_part_of_some t (row types)) more ≡ true
 
 -- the two numbers of a list, if it has two
 abbrev pub both : List ℕ → Option (ℕ × ℕ)

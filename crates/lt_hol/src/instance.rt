@@ -1,10 +1,11 @@
 //! Numbers of declared types with types put for their variables.
-ghost use Rattle.std.specs.Prelude.{◌≡◌, ◌<◌, length, true, slice_get, Some, IfOk};
+ghost use Rattle.std.specs.Prelude.{◌≡◌, ◌<◌, [], ◌∷◌, length, true, slice_get, Some, IfOk};
 ghost use Rattle.std.specs.Option.{ForSome};
 ghost use Rattle.std.specs.List.{zip};
 ghost use Rattle.lt_definitions.specs.Types.{type_instance};
+ghost use Rattle.lt_definitions.specs.Typing.{at_types};
 ghost use Rattle.lt_types.specs.Layout.{HasRoom};
-ghost use Rattle.lt_hol.specs.TypeTables.{types_at, all_below, Extends};
+ghost use Rattle.lt_hol.specs.TypeTables.{types_at, all_below, Extends, ExtendsBy};
 ghost use Rattle.lt_hol.specs.Instances.{IsInstance, argument_of, grown_by};
 
 use crate::type_table::TypeTable;
@@ -27,6 +28,7 @@ impl TypeTable {
         requires { all_below (length self.old) args.now ≡ true }
         ensures ok { IfOk result (λ id. IsInstance self.new declared.now (types_at self.old args.now) id) }
         ensures grows { Extends self.old self.new }
+        ensures added { IfOk result (λ _. ExtendsBy (at_types declared.now (types_at self.old args.now) ∷ []) self.old self.new) }
     {
         let variables = type_variables(alloc, declared)?;
         if variables.len() != args.len() {
@@ -47,6 +49,7 @@ impl TypeTable {
         requires count { length variables.now.keys ≡ length args.now }
         ensures ok { IfOk result (λ id. slice_get self.new id ≡ Some (type_instance (zip variables.now.keys (types_at self.old args.now)) declared.now)) }
         ensures grows { Extends self.old self.new }
+        ensures added { IfOk result (λ _. ExtendsBy (type_instance (zip variables.now.keys (types_at self.old args.now)) declared.now ∷ []) self.old self.new) }
     {
         let mut numbers = Vec::new(alloc);
         for node in declared.nodes() {
@@ -70,6 +73,7 @@ impl TypeTable {
         ensures types { IfOk result (λ v. types_at self.new v.items ≡ grown_by self.old (types_at self.old numbers.items) node.now argument) }
         ensures below { IfOk result (λ v. all_below (length self.new) v.items ≡ true) }
         ensures grows { Extends self.old self.new }
+        ensures added { IfOk result (λ v. ExtendsBy (types_at self.new v.items) self.old self.new) }
     {
         match argument {
             Some(id) => {

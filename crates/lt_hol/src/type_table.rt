@@ -3,7 +3,7 @@ ghost use Rattle.std.specs.Prelude.{◌≡◌, ◌<◌, ◌↔◌, [], ◌∷◌
 ghost use Rattle.std.specs.Option.{option_map};
 ghost use Rattle.lt_definitions.specs.Types.{fun};
 ghost use Rattle.lt_types.specs.Layout.{HasRoom, grow};
-ghost use Rattle.lt_hol.specs.TypeTables.{type_at, types_at, made_of, all_below, is_below, Extends, IsApart, function_parts, node_parts, both};
+ghost use Rattle.lt_hol.specs.TypeTables.{type_at, types_at, made_of, all_below, is_below, Extends, ExtendsBy, IsApart, function_parts, node_parts, both};
 
 use indexmap::IndexSet;
 use lt_types::{List, Memory, Name, TryCopy, Ty, TyNode};
@@ -70,6 +70,7 @@ impl TypeTable {
         requires { is_below (length self.old) node ≡ true }
         ensures ok { IfOk result (λ id. slice_get self.new id ≡ Some (made_of self.old node)) }
         ensures grows { Extends self.old self.new }
+        ensures added { IfOk result (λ _. ExtendsBy (made_of self.old node ∷ []) self.old self.new) }
     {
         let (id, _) = self.nodes.insert_full(node)?;
         Ok(id)
@@ -92,6 +93,7 @@ impl TypeTable {
         requires to { to < length self.old }
         ensures ok { IfOk result (λ id. slice_get self.new id ≡ Some (fun (type_at self.old from) (type_at self.old to))) }
         ensures grows { Extends self.old self.new }
+        ensures added { IfOk result (λ _. ExtendsBy (fun (type_at self.old from) (type_at self.old to) ∷ []) self.old self.new) }
     {
         let name = self.fun.copy(alloc)?;
         let args = List::from_vec(vec![in alloc; from, to]?);
@@ -119,6 +121,7 @@ impl TypeTable {
         ensures types { IfOk result (λ v. types_at self.new v.items ≡ grow (types_at self.old numbers.items) node.now) }
         ensures below { IfOk result (λ v. all_below (length self.new) v.items ≡ true) }
         ensures grows { Extends self.old self.new }
+        ensures added { IfOk result (λ v. ExtendsBy (types_at self.new v.items) self.old self.new) }
     {
         let mut numbers = numbers;
         match node {
@@ -140,6 +143,7 @@ impl TypeTable {
     pub fn intern(&mut self, alloc: Global, ty: &Ty) -> Result<usize, Memory>
         ensures ok { IfOk result (λ id. slice_get self.new id ≡ Some ty.now) }
         ensures grows { Extends self.old self.new }
+        ensures added { IfOk result (λ _. ExtendsBy (ty.now ∷ []) self.old self.new) }
     {
         let mut numbers = Vec::new(alloc);
         for node in ty.nodes() {

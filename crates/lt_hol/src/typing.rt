@@ -4,7 +4,7 @@ ghost use Rattle.lt_definitions.specs.Types.{TypeTree, row, fun};
 ghost use Rattle.lt_definitions.specs.Typing.{typed, type_fault, types_fault, unless, with_ok, constant_type, declared_type, applied_type, bound_type};
 ghost use Rattle.lt_hol.specs.Faults.{Checks, Gives};
 ghost use Rattle.lt_hol.specs.Outcomes.{Typed, IsOutcome, AreOutcomes, IsWithin, AreWithin, IsHint, typed_step, applied_outcomes, abstracted_outcomes};
-ghost use Rattle.lt_hol.specs.TypeTables.{type_at, all_below, types_at, Extends};
+ghost use Rattle.lt_hol.specs.TypeTables.{type_at, all_below, types_at, Extends, ExtendsBy};
 
 use crate::binder_types::{bound_types, hint_at};
 use crate::outcome::Outcome;
@@ -84,6 +84,7 @@ impl Signature {
     pub fn of_type(&self, alloc: Global, table: &mut TypeTable, ty: &Ty) -> Result<Outcome, Memory>
         ensures outcome { IfOk result (λ o. IsOutcome table.new o (unless (type_fault self.now ty.now) (Fine ty.now))) }
         ensures grows { Extends table.old table.new }
+        ensures added { IfOk result (λ _. ExtendsBy (ty.now ∷ []) table.old table.new) }
     {
         match self.check_type(alloc, ty) {
             Ok(()) => Ok(Outcome::Known(table.intern(alloc, ty)?)),

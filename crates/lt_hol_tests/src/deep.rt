@@ -1,30 +1,36 @@
-//! Types and terms that are 100,000 deep.
-use crate::binding::{closes_to, opens_to};
-use crate::texts::{name, term, ty};
-use lt_hol::{
-    Binder, Signature, Term, TermBuilder, TryCopy, Ty, TyBuilder, alpha_eq, binders, nodes,
-    same_up_to_types, subst_free,
-};
+//! A term, and its type, that are 100,000 deep.
+use crate::makers::{free, name, variable};
+use lt_hol::{Signature, Term, TermBuilder, TryCopy, Ty, TyBuilder, alpha_eq};
 use std::alloc::Global;
 use std::test::Fail;
 
 const DEPTH: usize = 100_000;
 
-/// One more type, equal to one that is given, before a chain of functions is made.
-fn arguments(alloc: Global, from: &Ty) -> Result<TyBuilder, Fail> {
-    let mut builder = TyBuilder::new(alloc);
+/// So many variables 'a, and one more.
+fn parts(alloc: Global) -> Result<TyBuilder, Fail> {
+    let a = variable(alloc, "a")?;
+    let mut builder = TyBuilder::new(alloc).ty(alloc, &a)?;
     for _ in 0..DEPTH {
-        builder = builder.ty(alloc, from)?;
+        builder = builder.ty(alloc, &a)?;
     }
     Ok(builder)
 }
 
 /// The last two types become those of a type of functions.
-fn function(alloc: Global, builder: TyBuilder) -> Result<TyBuilder, Fail> {
+fn joined(alloc: Global, builder: TyBuilder) -> Result<TyBuilder, Fail> {
     if builder.len() < 2 {
         return Err("too few types".into());
     }
     Ok(builder.con(alloc, name(alloc, "fun")?, 2)?)
+}
+
+/// Functions of so many arguments 'a to 'a.
+fn functions(alloc: Global) -> Result<Ty, Fail> {
+    let mut builder = parts(alloc)?;
+    for _ in 0..DEPTH {
+        builder = joined(alloc, builder)?;
+    }
+    one_type(alloc, builder)
 }
 
 fn one_type(alloc: Global, builder: TyBuilder) -> Result<Ty, Fail> {
@@ -34,94 +40,11 @@ fn one_type(alloc: Global, builder: TyBuilder) -> Result<Ty, Fail> {
     Ok(builder.finish(alloc)?)
 }
 
-/// Functions of so many arguments of a type to another.
-fn functions(alloc: Global, from: &Ty, to: &Ty) -> Result<Ty, Fail> {
-    let mut builder = arguments(alloc, from)?.ty(alloc, to)?;
-    for _ in 0..DEPTH {
-        builder = function(alloc, builder)?;
+fn applied(alloc: Global, builder: TermBuilder, argument: &Term) -> Result<TermBuilder, Fail> {
+    if builder.len() != 1 {
+        return Err("not one term".into());
     }
-    one_type(alloc, builder)
-}
-
-#[test]
-fn deep_types_are_compared(rt: HostRuntime) -> Result<(), Fail> {
-    let alloc = rt.alloc();
-    let (a, b) = (ty(alloc, "A")?, ty(alloc, "B")?);
-    let deep = functions(alloc, &a, &b)?;
-    assert!(rt; deep == functions(alloc, &a, &b)?);
-    assert!(rt; deep != functions(alloc, &a, &a)?);
-    assert!(rt; Signature::new(alloc)?.check_type(alloc, &deep).is_ok());
-    Ok(())
-}
-
-/// An abstraction over x, and then as many over y as make the term deep, of a term.
-fn abstractions(alloc: Global, ty: &Ty, body: Term) -> Result<Term, Fail> {
-    let mut term = hidden(alloc, ty, body)?;
-    term = Term::lam(alloc, name(alloc, "x")?, ty.copy(alloc)?, term)?;
-    Ok(term)
-}
-
-/// Abstractions over y of a term.
-fn hidden(alloc: Global, ty: &Ty, body: Term) -> Result<Term, Fail> {
-    let y = name(alloc, "y")?;
-    let mut term = body;
-    for _ in 1..DEPTH {
-        term = Term::lam(alloc, y.copy(alloc)?, ty.copy(alloc)?, term)?;
-    }
-    Ok(term)
-}
-
-#[test]
-fn deep_abstractions_are_typed(rt: HostRuntime) -> Result<(), Fail> {
-    let alloc = rt.alloc();
-    let a = ty(alloc, "A")?;
-    let t = abstractions(alloc, &a, term(alloc, "u")?)?;
-    let found = Signature::new(alloc)?.type_of(alloc, &t)?;
-    assert!(rt; found == functions(alloc, &a, &a)?);
-    assert_eq!(rt; nodes(&t), 200_001);
-    let wanted = Binder {
-        place: DEPTH,
-        index: DEPTH - 1,
-    };
-    assert!(rt; binders(alloc, &t)?.first() == Some(&Some(wanted)));
-    Ok(())
-}
-
-#[test]
-fn deep_abstractions_are_compared(rt: HostRuntime) -> Result<(), Fail> {
-    let alloc = rt.alloc();
-    let bool = Ty::bool(alloc)?;
-    let t = abstractions(alloc, &bool, term(alloc, "u")?)?;
-    let other = abstractions(alloc, &bool, term(alloc, "v")?)?;
-    assert!(rt; is_its_copy(alloc, &t)?);
-    assert!(rt; !alpha_eq(alloc, &t, &other)?);
-    Ok(())
-}
-
-#[test]
-fn deep_abstractions_are_opened_and_closed(rt: HostRuntime) -> Result<(), Fail> {
-    let alloc = rt.alloc();
-    let bool = Ty::bool(alloc)?;
-    let opened = hidden(alloc, &bool, term(alloc, "Bx")?)?;
-    let bound = hidden(alloc, &bool, term(alloc, "u")?)?;
-    assert!(rt; go_to_and_fro(alloc, &opened, bound)?);
-    Ok(())
-}
-
-/// As many of a term as make an application deep.
-fn copies(alloc: Global, function: &Term) -> Result<TermBuilder, Fail> {
-    let mut builder = TermBuilder::new(alloc);
-    for _ in 0..DEPTH {
-        builder = builder.term(alloc, function)?;
-    }
-    Ok(builder)
-}
-
-fn applied(alloc: Global, builder: TermBuilder) -> Result<TermBuilder, Fail> {
-    if builder.len() < 2 {
-        return Err("too few terms".into());
-    }
-    Ok(builder.app(alloc)?)
+    Ok(builder.term(alloc, argument)?.app(alloc)?)
 }
 
 fn one_term(builder: TermBuilder) -> Result<Term, Fail> {
@@ -131,80 +54,21 @@ fn one_term(builder: TermBuilder) -> Result<Term, Fail> {
     Ok(builder.finish())
 }
 
-/// A function applied to itself applied to .. applied to a term.
-fn applications(alloc: Global, function: &Term, argument: &Term) -> Result<Term, Fail> {
-    let mut builder = copies(alloc, function)?.term(alloc, argument)?;
+/// A function of so many arguments, applied to all of them.
+fn full(alloc: Global) -> Result<Term, Fail> {
+    let x = free(alloc, "x", variable(alloc, "a")?)?;
+    let mut builder = TermBuilder::after(alloc, free(alloc, "f", functions(alloc)?)?)?;
     for _ in 0..DEPTH {
-        builder = applied(alloc, builder)?;
+        builder = applied(alloc, builder, &x)?;
     }
     one_term(builder)
 }
 
-/// A function of many arguments applied to one, again and again.
-fn saturated(alloc: Global, function: Term, argument: &Term) -> Result<Term, Fail> {
-    let mut builder = TermBuilder::after(alloc, function)?;
-    for _ in 0..DEPTH {
-        builder = applied(alloc, builder.term(alloc, argument)?)?;
-    }
-    one_term(builder)
-}
-
-/// A function of many arguments, applied to all of them.
-fn full(alloc: Global, from: &Ty, to: &Ty) -> Result<Term, Fail> {
-    let f = Term::free(alloc, name(alloc, "f")?, functions(alloc, from, to)?)?;
-    saturated(alloc, f, &term(alloc, "Ax")?)
-}
-
 #[test]
-fn deep_applications_are_typed(rt: HostRuntime) -> Result<(), Fail> {
-    let alloc = rt.alloc();
-    let sig = Signature::new(alloc)?;
-    let (a, bool) = (ty(alloc, "A")?, Ty::bool(alloc)?);
-    let t = full(alloc, &a, &bool)?;
-    assert!(rt; sig.type_of(alloc, &t)? == bool);
-    let nested = applications(alloc, &term(alloc, "AA>z")?, &term(alloc, "Ax")?)?;
-    assert!(rt; sig.type_of(alloc, &nested)? == a);
-    Ok(())
-}
-
-/// Whether a term and its abstraction over x of type `bool` are opened and closed to each other.
-fn go_to_and_fro(alloc: Global, t: &Term, bound: Term) -> Result<bool, Fail> {
-    let abstraction = Term::lam(alloc, name(alloc, "x")?, Ty::bool(alloc)?, bound)?;
-    Ok(opens_to(alloc, &abstraction, t)? && closes_to(alloc, t, &abstraction)?)
-}
-
-/// Whether a term with y put for x, both of type `bool`, is another.
-fn is_with_y(alloc: Global, t: &Term, other: &Term) -> Result<bool, Fail> {
-    let (x, y) = (name(alloc, "x")?, term(alloc, "By")?);
-    let put = subst_free(alloc, t, &x, &Ty::bool(alloc)?, &y)?;
-    Ok(same_up_to_types(alloc, &put, other)?)
-}
-
-/// Whether a term is alpha-equal to its copy.
-fn is_its_copy(alloc: Global, t: &Term) -> Result<bool, Fail> {
-    Ok(alpha_eq(alloc, t, &t.copy(alloc)?)?)
-}
-
-/// An application of z again and again to a term.
-fn chain(alloc: Global, argument: &str) -> Result<Term, Fail> {
-    applications(alloc, &term(alloc, "BB>z")?, &term(alloc, argument)?)
-}
-
-#[test]
-fn deep_applications_are_compared(rt: HostRuntime) -> Result<(), Fail> {
-    let alloc = rt.alloc();
-    let t = chain(alloc, "Bx")?;
-    let other = chain(alloc, "By")?;
-    assert!(rt; is_its_copy(alloc, &t)?);
-    assert!(rt; !alpha_eq(alloc, &t, &other)?);
-    assert!(rt; is_with_y(alloc, &t, &other)?);
-    Ok(())
-}
-
-#[test]
-fn deep_applications_are_opened_and_closed(rt: HostRuntime) -> Result<(), Fail> {
-    let alloc = rt.alloc();
-    let t = chain(alloc, "Bx")?;
-    assert!(rt; go_to_and_fro(alloc, &t, chain(alloc, "u")?)?);
+fn a_deep_term_is_typed_and_compared(rt: HostRuntime) -> Result<(), Fail> {
+    let t = full(rt.alloc())?;
+    let found = Signature::new(rt.alloc())?.type_of(rt.alloc(), &t)?;
+    assert!(rt; found == variable(rt.alloc(), "a")?);
+    assert!(rt; alpha_eq(rt.alloc(), &t, &t.copy(rt.alloc())?)?);
     Ok(())
 }

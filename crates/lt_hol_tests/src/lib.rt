@@ -1,25 +1,23 @@
-//! Tests of the calls of lt_types, lt_terms and lt_hol, with values from outside.
+//! One call of each public function of lt_types, lt_terms and lt_hol, with ample memory.
 #![tactic(auto)]
 
 #[cfg(test)]
-mod alpha;
-#[cfg(test)]
-mod binding;
-#[cfg(test)]
 mod deep;
+#[cfg(test)]
+mod faults;
 #[cfg(test)]
 mod lines;
 #[cfg(test)]
-mod nodes;
+mod makers;
 #[cfg(test)]
-mod replacing;
+mod maps;
+#[cfg(test)]
+mod names;
 #[cfg(test)]
 mod signatures;
 #[cfg(test)]
 mod tables;
 #[cfg(test)]
-mod texts;
+mod terms;
 #[cfg(test)]
 mod types;
-#[cfg(test)]
-mod typing;

@@ -1,202 +1,84 @@
 //! Types by number, and what is known of types, constants and applications.
-use crate::texts::{name, ty, types};
-use crate::typing::is_fault;
-use lt_hol::{Outcome, Signature, Ty, TyNode, TypeTable, applied_types};
+use crate::makers::{function, name, one, variable};
+use lt_hol::{Outcome, Signature, Ty, TypeTable, applied_types};
 use std::alloc::Global;
 use std::test::Fail;
 
-fn number(alloc: Global, table: &mut TypeTable, text: &str) -> Result<usize, Fail> {
-    Ok(table.intern(alloc, &ty(alloc, text)?)?)
+/// The numbers of 'a to 'b and of 'a.
+fn numbers(alloc: Global, table: &mut TypeTable) -> Result<(usize, usize), Fail> {
+    let whole = table.intern(alloc, &function(alloc, "a", "b")?)?;
+    Ok((whole, table.intern(alloc, &variable(alloc, "a")?)?))
 }
 
-fn is_at(alloc: Global, table: &TypeTable, id: usize, text: &str) -> Result<bool, Fail> {
-    if id >= table.len() {
+/// Whether what a table tells of two numbers is right of 'a to 'b and of 'a.
+fn tells(alloc: Global, table: &TypeTable, whole: usize, a: usize) -> Result<bool, Fail> {
+    if whole >= table.len() || a >= table.len() {
         return Err("no number".into());
     }
-    Ok(table.ty(alloc, id)? == ty(alloc, text)?)
+    let right = table.ty(alloc, whole)? == function(alloc, "a", "b")?;
+    Ok(right && !table.same(whole, a) && table.node(whole).arguments() == 2)
 }
 
-fn is_same(table: &TypeTable, a: usize, b: usize) -> Result<bool, Fail> {
-    if a >= table.len() || b >= table.len() {
-        return Err("no number".into());
+/// Whether a function is applied to its argument alone.
+fn applies(table: &TypeTable, whole: usize, a: usize) -> bool {
+    if whole >= table.len() || a >= table.len() {
+        return false;
     }
-    Ok(table.same(a, b))
+    let fits = matches!(applied_types(table, whole, a), Outcome::Known(_));
+    fits && matches!(applied_types(table, a, whole), Outcome::Mismatch(_, _))
 }
 
-fn parts(table: &TypeTable, id: usize) -> Result<Option<(usize, usize)>, Fail> {
-    if id >= table.len() {
-        return Err("no number".into());
+/// The number of the type of functions from the result of a function to its argument.
+fn turned(alloc: Global, table: &mut TypeTable, whole: usize) -> Result<Option<usize>, Fail> {
+    if whole >= table.len() {
+        return Ok(None);
     }
-    Ok(table.as_fun(id))
-}
-
-/// How many arguments the type of a number has.
-fn arguments(table: &TypeTable, id: usize) -> Result<usize, Fail> {
-    if id >= table.len() {
-        return Err("no number".into());
+    match table.as_fun(whole) {
+        Some((from, to)) => Ok(Some(table.fun(alloc, to, from)?)),
+        None => Ok(None),
     }
-    match table.node(id) {
-        TyNode::Var(_) => Ok(0),
-        TyNode::Con(_, args) => Ok(args.len()),
-    }
-}
-
-fn function(alloc: Global, table: &mut TypeTable, from: usize, to: usize) -> Result<usize, Fail> {
-    if from >= table.len() || to >= table.len() {
-        return Err("no number".into());
-    }
-    Ok(table.fun(alloc, from, to)?)
 }
 
 #[test]
 fn a_table_numbers_types(rt: HostRuntime) -> Result<(), Fail> {
-    let alloc = rt.alloc();
-    let mut table = TypeTable::new(alloc)?;
-    let test = number(alloc, &mut table, "AB>")?;
-    let a = number(alloc, &mut table, "A")?;
-    assert_eq!(rt; number(alloc, &mut table, "AB>")?, test);
-    assert_eq!(rt; table.len(), 3);
-    assert!(rt; is_same(&table, test, test)? && !is_same(&table, test, a)?);
-    assert!(rt; is_at(alloc, &table, test, "AB>")? && is_at(alloc, &table, a, "A")?);
-    assert_eq!(rt; (arguments(&table, test)?, arguments(&table, a)?), (2, 0));
+    let mut table = TypeTable::new(rt.alloc())?;
+    let (whole, a) = numbers(rt.alloc(), &mut table)?;
+    assert!(rt; tells(rt.alloc(), &table, whole, a)?);
+    assert!(rt; applies(&table, whole, a));
+    assert!(rt; turned(rt.alloc(), &mut table, whole)?.is_some());
+    assert_eq!(rt; table.len(), 4);
     Ok(())
 }
 
+/// The number of 'b at a type.
+fn instance(alloc: Global, table: &mut TypeTable, at: usize) -> Result<Option<usize>, Fail> {
+    if at >= table.len() {
+        return Ok(None);
+    }
+    Ok(table.instance(alloc, &variable(alloc, "b")?, [at].as_slice())?)
+}
+
 #[test]
-fn a_table_tells_functions(rt: HostRuntime) -> Result<(), Fail> {
-    let alloc = rt.alloc();
-    let mut table = TypeTable::new(alloc)?;
-    let (test, list) = (
-        number(alloc, &mut table, "AB>")?,
-        number(alloc, &mut table, "AL")?,
-    );
-    let (from, to) = parts(&table, test)?.ok_or("no function")?;
-    assert!(rt; is_at(alloc, &table, from, "A")? && is_at(alloc, &table, to, "B")?);
-    assert_eq!(rt; function(alloc, &mut table, from, to)?, test);
-    let turned = function(alloc, &mut table, to, from)?;
-    assert!(rt; is_at(alloc, &table, turned, "BA>")?);
-    assert!(rt; parts(&table, from)?.is_none() && parts(&table, list)?.is_none());
+fn a_variable_stands_for_a_type(rt: HostRuntime) -> Result<(), Fail> {
+    let mut table = TypeTable::new(rt.alloc())?;
+    let bool = table.intern(rt.alloc(), &Ty::bool(rt.alloc())?)?;
+    assert_eq!(rt; instance(rt.alloc(), &mut table, bool)?, Some(bool));
     Ok(())
 }
 
-/// The number of a declared type at the types of two numbers.
-fn instance(
-    alloc: Global,
-    table: &mut TypeTable,
-    declared: &str,
-    args: [usize; 2],
-) -> Result<Option<usize>, Fail> {
-    if args[0] >= table.len() || args[1] >= table.len() {
-        return Err("no number".into());
-    }
-    Ok(table.instance(alloc, &ty(alloc, declared)?, args.as_slice())?)
+/// Whether `eps` at `bool` has a type.
+fn choice_is_known(alloc: Global, sig: &Signature, table: &mut TypeTable) -> Result<bool, Fail> {
+    let types = one(alloc, Ty::bool(alloc)?)?;
+    let outcome = sig.of_constant(alloc, table, &name(alloc, "eps")?, &types)?;
+    Ok(matches!(outcome, Outcome::Known(_)))
 }
 
 #[test]
-fn types_are_put_in_order_of_first_appearance(rt: HostRuntime) -> Result<(), Fail> {
-    let alloc = rt.alloc();
-    let mut table = TypeTable::new(alloc)?;
-    let args = [
-        number(alloc, &mut table, "AB>")?,
-        number(alloc, &mut table, "C")?,
-    ];
-    let put = instance(alloc, &mut table, "CACL>>", args)?.ok_or("too few")?;
-    assert!(rt; is_at(alloc, &table, put, "AB>CAB>L>>")?);
-    assert!(rt; instance(alloc, &mut table, "AA>", args)?.is_none());
-    Ok(())
-}
-
-/// The type of what is known to have one.
-fn known(alloc: Global, table: &TypeTable, outcome: &Outcome, text: &str) -> Result<bool, Fail> {
-    match outcome {
-        Outcome::Known(id) => is_at(alloc, table, *id, text),
-        _ => Ok(false),
-    }
-}
-
-fn is_wrong(outcome: &Outcome, word: &str, text: &str) -> bool {
-    match outcome {
-        Outcome::Wrong(fault) => is_fault(fault, word, text),
-        _ => false,
-    }
-}
-
-/// What is known of a thing of a type.
-fn of_type(
-    alloc: Global,
-    table: &mut TypeTable,
-    sig: &Signature,
-    text: &str,
-) -> Result<Outcome, Fail> {
-    Ok(sig.of_type(alloc, table, &ty(alloc, text)?)?)
-}
-
-/// What is known of `eps` at types.
-fn of_choice(
-    alloc: Global,
-    table: &mut TypeTable,
-    sig: &Signature,
-    text: &str,
-) -> Result<Outcome, Fail> {
-    Ok(sig.of_constant(alloc, table, &name(alloc, "eps")?, &types(alloc, text)?)?)
-}
-
-/// Whether a thing of a type is known to have that type.
-fn type_is_known(
-    alloc: Global,
-    table: &mut TypeTable,
-    sig: &Signature,
-    text: &str,
-) -> Result<bool, Fail> {
-    let found = of_type(alloc, table, sig, text)?;
-    known(alloc, table, &found, text)
-}
-
-/// Whether `eps` at types is known to have a type.
-fn choice_is_known(
-    alloc: Global,
-    table: &mut TypeTable,
-    sig: &Signature,
-    at: &str,
-    wanted: &str,
-) -> Result<bool, Fail> {
-    let found = of_choice(alloc, table, sig, at)?;
-    known(alloc, table, &found, wanted)
-}
-
-#[test]
-fn constants_and_types_are_known_or_wrong(rt: HostRuntime) -> Result<(), Fail> {
-    let alloc = rt.alloc();
-    let sig = Signature::new(alloc)?;
-    let mut table = TypeTable::new(alloc)?;
-    assert!(rt; type_is_known(alloc, &mut table, &sig, "AB>")?);
-    assert!(rt; choice_is_known(alloc, &mut table, &sig, "B", "BB>B>")?);
-    let wrong = of_type(alloc, &mut table, &sig, "N")?;
-    assert!(rt; is_wrong(&wrong, "UnknownType", "nat"));
-    let wrong = of_choice(alloc, &mut table, &sig, "")?;
-    assert!(rt; is_wrong(&wrong, "TypeArgs", "eps"));
-    Ok(())
-}
-
-fn applied(table: &TypeTable, t: usize, u: usize) -> Result<Outcome, Fail> {
-    if t >= table.len() || u >= table.len() {
-        return Err("no number".into());
-    }
-    Ok(applied_types(table, t, u))
-}
-
-#[test]
-fn functions_are_applied_to_their_arguments(rt: HostRuntime) -> Result<(), Fail> {
-    let alloc = rt.alloc();
-    let mut table = TypeTable::new(alloc)?;
-    let (test, a) = (
-        number(alloc, &mut table, "AB>")?,
-        number(alloc, &mut table, "A")?,
-    );
-    assert!(rt; known(alloc, &table, &applied(&table, test, a)?, "B")?);
-    assert!(rt;
-        matches!(applied(&table, a, test)?, Outcome::Mismatch(t, u) if (t, u) == (a, test))
-    );
-    assert!(rt; matches!(applied(&table, test, test)?, Outcome::Mismatch(_, _)));
+fn constants_and_types_are_known(rt: HostRuntime) -> Result<(), Fail> {
+    let sig = Signature::new(rt.alloc())?;
+    let mut table = TypeTable::new(rt.alloc())?;
+    assert!(rt; choice_is_known(rt.alloc(), &sig, &mut table)?);
+    let outcome = sig.of_type(rt.alloc(), &mut table, &variable(rt.alloc(), "a")?)?;
+    assert!(rt; matches!(outcome, Outcome::Known(_)));
     Ok(())
 }

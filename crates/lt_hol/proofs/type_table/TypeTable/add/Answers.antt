@@ -1,7 +1,7 @@
-use Rattle.std.proofs.Common.{◌≡◌, ◌∙◌, refl, [], List, Some, length, true, ap, sym, subst}
+use Rattle.std.proofs.Common.{◌≡◌, ◌∙◌, refl, [], ◌∷◌, List, Some, length, true, ap, sym, subst}
 use Rattle.lt_types.specs.contracts.ty.TyNodePartialEq.TheImpl.{eq-value}
 use Rattle.lt_definitions.specs.Types.{TypeTree}
-use Rattle.lt_hol.specs.TypeTables.{made_of, is_below, types_after, Extends}
+use Rattle.lt_hol.specs.TypeTables.{made_of, is_below, types_after, Extends, ExtendsBy}
 use Rattle.lt_hol.proofs.NodeEquality.{node-same, same-node}
 use Rattle.lt_hol.proofs.DistinctTypes.{IsAdded, inserted}
 use Rattle.lt_hol.proofs.type_table.TypeTable.add.Goals as goal
@@ -26,3 +26,10 @@ returns-clause-grows c =
     (subst (λ (ts : List TypeTree). is_below (length ts) c.args.node ≡ true) (sym c.self.view_is) c.requires)
     (c.in_ok-id.ensures.stored.1 ∙ ap Some (sym (node-same c.args.node c.in_ok-id.ensures.stored.0 c.in_ok-id.ensures.stored.2))) in
     subst (λ (ts : List TypeTree). Extends ts (types_after [] c.insert_full.new.self.keys)) c.self.view_is more.grows
+
+pub returns-clause-added : goal.returns-clause-added
+returns-clause-added c =
+    let more : IsAdded c.self.inside.nodes.keys c.insert_full.new.self.keys c.args.node c.in_ok-id.id = inserted eq-value.it same-node _ c.self.inside.nodes.keys c.insert_full.new.self.keys c.args.node c.in_ok-id.id refl c.in_ok-id.ensures.keys c.self.invariant.grounded c.self.invariant.apart
+    (subst (λ (ts : List TypeTree). is_below (length ts) c.args.node ≡ true) (sym c.self.view_is) c.requires)
+    (c.in_ok-id.ensures.stored.1 ∙ ap Some (sym (node-same c.args.node c.in_ok-id.ensures.stored.0 c.in_ok-id.ensures.stored.2))) in
+    subst (λ (ts : List TypeTree). ExtendsBy (made_of ts c.args.node ∷ []) ts (types_after [] c.insert_full.new.self.keys)) c.self.view_is more.added

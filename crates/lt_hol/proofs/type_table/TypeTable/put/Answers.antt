@@ -2,6 +2,7 @@ use Rattle.std.proofs.Common.{◌≡◌, ◌-◌, ◌∙◌, sym, subst, length,
 use Rattle.lt_types.specs.declared.ty.TyNode.{TyNode}
 use Rattle.lt_types.specs.Layout.{grow}
 use Rattle.lt_hol.specs.TypeTables.{types_at, all_below}
+use Rattle.lt_hol.proofs.AddedTypes.{by-last}
 use Rattle.lt_hol.proofs.TypeNumbers.{AreNumbers, put-variable, put-constructor, below-drop}
 use Rattle.lt_hol.proofs.type_table.TypeTable.put.Goals as goal
 
@@ -23,6 +24,14 @@ constructor c =
     (c.len.result - c.len-in-Con.result) c.in-Con.name c.in_ok-copy-in-Con.field-0 c.in-Con.places c.requires.below c.in_ok-id-in-Con.ensures.grows
     (λ i. (c.len.ensures ∙ c.args.numbers.ok.0) i - c.len-in-Con.ensures i) c.in_ok-args-in-Con.ensures.items (c.from_vec.ensures ∙ c.in_ok-args-in-Con.ensures.tail)
     c.in_ok-id-in-Con.ensures.ok c.in_ok-copy-in-Con.ensures c.in_ok-push-in-Con.ensures.items)
+
+pub returns-in_ok-push-in-Var-clause-added : goal.returns-in_ok-push-in-Var-clause-added
+returns-in_ok-push-in-Var-clause-added c =
+    by-last c.args.self.now c.add.new.self c.args.numbers.items c.push.new.self.items c.in_ok-id-in-Var.id _ c.in_ok-id-in-Var.ensures.added c.in_ok-id-in-Var.ensures.ok c.in_ok-push-in-Var.ensures.items
+
+pub returns-in_ok-push-in-Con-clause-added : goal.returns-in_ok-push-in-Con-clause-added
+returns-in_ok-push-in-Con-clause-added c =
+    by-last c.args.self.now c.add-in-Con.new.self c.split_off.new.self.items c.push-in-Con.new.self.items c.in_ok-id-in-Con.id _ c.in_ok-id-in-Con.ensures.added c.in_ok-id-in-Con.ensures.ok c.in_ok-push-in-Con.ensures.items
 
 pub returns-in_ok-push-in-Var-clause-types : goal.returns-in_ok-push-in-Var-clause-types
 returns-in_ok-push-in-Var-clause-types c = (variable c).made
