@@ -1,22 +1,11 @@
 -- The parts of types of functions, read off by matching.
 use Rattle.std.proofs.Common.{◌≡◌, ◌∙◌, ◌&&◌, [], ◌∷◌, Bool, true, false, Option, Some, None, Ok, Err, refl, ap, sym, if◌then◌else◌}
 use Rattle.std.specs.Prelude.{codes}
-use Rattle.std.specs.Str.{chars}
-use Rattle.std.proofs.lemmas.Str.{chars-encodes}
 use Rattle.lt_definitions.specs.Types.{Chars, TypeTree, TypeMap, Matches, type_variable, type_constructor, no_types, type_and, bool, fun, same_name, same_type, type_instance}
 use Rattle.lt_definitions.specs.Typing.{mismatch}
 use Rattle.lt_definitions.specs.Rules.{joined_type, predicate_over, ok_of}
 use Rattle.lt_definitions.proofs.SameNames.{name-true}
-use Rattle.lt_types.specs.Lexical.{is_name}
-use Rattle.lt_types.proofs.Words.{xs-are-name}
-use Rattle.lt_formulas.specs.FunctionTypes.{function_parts}
-
-pub x-chars : chars (120 ∷ []) ≡ 120 ∷ []
-unfolding lib.Utf8.encode
-x-chars = chars-encodes (120 ∷ []) refl
-
-pub x-word : is_name (chars (120 ∷ [])) ≡ true
-x-word = ap is_name x-chars ∙ xs-are-name 0
+use Rattle.lt_types.specs.FunctionTypes.{function_parts}
 
 -- what a match says of the parts
 pub parts-of-match : (m : TypeMap) (ty a x : TypeTree) → Matches (fun a x) m ty → Some (type_instance m a, type_instance m x) ≡ function_parts ty

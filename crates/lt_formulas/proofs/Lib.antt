@@ -1,4 +1,3 @@
-pub mod Words
+pub mod Letters
 pub mod Hypotheses
-pub mod Typed
 pub mod FunctionParts

@@ -1,9 +1,10 @@
 //! Terms closed over a free variable, made in a store.
-ghost use Rattle.std.specs.Prelude.{◌≡◌, ◌<◌, length, IfOk};
+ghost use Rattle.std.specs.Prelude.{◌<◌, length};
 ghost use Rattle.lt_definitions.specs.Types.{fun};
 ghost use Rattle.lt_nameless.specs.Nameless.{nameless_abstraction};
 ghost use Rattle.lt_nameless.specs.NamelessRules.{nameless_equation, nameless_for_all, abstracted};
-ghost use Rattle.lt_store.specs.Trees.{tree_at, Extends};
+ghost use Rattle.lt_store.specs.Trees.{tree_at};
+ghost use Rattle.lt_store.specs.Building.{Builds};
 
 use crate::connectives::{mk_equation, mk_for_all};
 use lt_hol::{Memory, Name, TryCopy, Ty};
@@ -11,7 +12,7 @@ use lt_store::{Id, TermStore, abstract_free};
 use std::alloc::Global;
 
 /// The abstraction of a term over a free variable.
-pub fn mk_closed<S: TermStore>(
+pub(crate) fn mk_closed<S: TermStore>(
     alloc: Global,
     store: &mut S,
     name: &Name,
@@ -19,9 +20,8 @@ pub fn mk_closed<S: TermStore>(
     t: Id,
 ) -> Result<Id, Memory>
     requires { t < length (S.nodes store.old) }
-    ensures kept { Extends (S.nodes store.old) (S.nodes store.new) }
-    ensures made { IfOk result (λ r. r < length (S.nodes store.new)) }
-    ensures is { IfOk result (λ r. tree_at (S.nodes store.new) r ≡ nameless_abstraction ty.now (abstracted 0 name.now ty.now (tree_at (S.nodes store.old) t))) }
+    ensures { Builds (S.nodes store.old) (S.nodes store.new) result
+        (nameless_abstraction ty.now (abstracted 0 name.now ty.now (tree_at (S.nodes store.old) t))) }
 {
     let body = abstract_free(alloc, store, t, name, ty)?;
     let made = store.mk_lam(alloc, ty.copy(alloc)?, body)?;
@@ -40,9 +40,8 @@ pub fn mk_closed_equation<S: TermStore>(
 ) -> Result<Id, Memory>
     requires s { s < length (S.nodes store.old) }
     requires t { t < length (S.nodes store.old) }
-    ensures kept { Extends (S.nodes store.old) (S.nodes store.new) }
-    ensures made { IfOk result (λ r. r < length (S.nodes store.new)) }
-    ensures is { IfOk result (λ r. tree_at (S.nodes store.new) r ≡ nameless_equation (fun ty.now at) (nameless_abstraction ty.now (abstracted 0 name.now ty.now (tree_at (S.nodes store.old) s))) (nameless_abstraction ty.now (abstracted 0 name.now ty.now (tree_at (S.nodes store.old) t)))) }
+    ensures { Builds (S.nodes store.old) (S.nodes store.new) result
+        (nameless_equation (fun ty.now at) (nameless_abstraction ty.now (abstracted 0 name.now ty.now (tree_at (S.nodes store.old) s))) (nameless_abstraction ty.now (abstracted 0 name.now ty.now (tree_at (S.nodes store.old) t)))) }
 {
     let whole = Ty::fun(alloc, ty.copy(alloc)?, at)?;
     let left = mk_closed(alloc, store, name, ty, s)?;
@@ -60,9 +59,8 @@ pub fn mk_closed_for_all<S: TermStore>(
     p: Id,
 ) -> Result<Id, Memory>
     requires { p < length (S.nodes store.old) }
-    ensures kept { Extends (S.nodes store.old) (S.nodes store.new) }
-    ensures made { IfOk result (λ r. r < length (S.nodes store.new)) }
-    ensures is { IfOk result (λ r. tree_at (S.nodes store.new) r ≡ nameless_for_all ty.now (nameless_abstraction ty.now (abstracted 0 name.now ty.now (tree_at (S.nodes store.old) p)))) }
+    ensures { Builds (S.nodes store.old) (S.nodes store.new) result
+        (nameless_for_all ty.now (nameless_abstraction ty.now (abstracted 0 name.now ty.now (tree_at (S.nodes store.old) p)))) }
 {
     let predicate = mk_closed(alloc, store, name, ty, p)?;
     let made = mk_for_all(alloc, store, ty.copy(alloc)?, predicate)?;

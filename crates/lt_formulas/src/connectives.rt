@@ -1,8 +1,9 @@
 //! Equations, implications, universal statements and falsity, made in a store.
-ghost use Rattle.std.specs.Prelude.{◌≡◌, ◌<◌, length, IfOk};
+ghost use Rattle.std.specs.Prelude.{◌<◌, length};
 ghost use Rattle.lt_nameless.specs.Nameless.{nameless_application};
 ghost use Rattle.lt_nameless.specs.NamelessRules.{nameless_equation, nameless_implies, nameless_for_all, nameless_falsity};
-ghost use Rattle.lt_store.specs.Trees.{tree_at, Extends};
+ghost use Rattle.lt_store.specs.Trees.{tree_at};
+ghost use Rattle.lt_store.specs.Building.{Builds};
 
 use crate::constants::{mk_all, mk_eq, mk_imp};
 use lt_hol::{Memory, TryCopy, Ty};
@@ -14,9 +15,8 @@ fn mk_binary<S: TermStore>(alloc: Global, store: &mut S, f: Id, a: Id, b: Id) ->
     requires f { f < length (S.nodes store.old) }
     requires a { a < length (S.nodes store.old) }
     requires b { b < length (S.nodes store.old) }
-    ensures kept { Extends (S.nodes store.old) (S.nodes store.new) }
-    ensures made { IfOk result (λ r. r < length (S.nodes store.new)) }
-    ensures is { IfOk result (λ r. tree_at (S.nodes store.new) r ≡ nameless_application (nameless_application (tree_at (S.nodes store.old) f) (tree_at (S.nodes store.old) a)) (tree_at (S.nodes store.old) b)) }
+    ensures { Builds (S.nodes store.old) (S.nodes store.new) result
+        (nameless_application (nameless_application (tree_at (S.nodes store.old) f) (tree_at (S.nodes store.old) a)) (tree_at (S.nodes store.old) b)) }
 {
     let half = store.mk_app(alloc, f, a)?;
     let made = store.mk_app(alloc, half, b)?;
@@ -33,9 +33,8 @@ pub fn mk_equation<S: TermStore>(
 ) -> Result<Id, Memory>
     requires s { s < length (S.nodes store.old) }
     requires t { t < length (S.nodes store.old) }
-    ensures kept { Extends (S.nodes store.old) (S.nodes store.new) }
-    ensures made { IfOk result (λ r. r < length (S.nodes store.new)) }
-    ensures is { IfOk result (λ r. tree_at (S.nodes store.new) r ≡ nameless_equation ty (tree_at (S.nodes store.old) s) (tree_at (S.nodes store.old) t)) }
+    ensures { Builds (S.nodes store.old) (S.nodes store.new) result
+        (nameless_equation ty (tree_at (S.nodes store.old) s) (tree_at (S.nodes store.old) t)) }
 {
     let eq = mk_eq(alloc, store, ty)?;
     let made = mk_binary(alloc, store, eq, s, t)?;
@@ -46,9 +45,8 @@ pub fn mk_equation<S: TermStore>(
 pub fn mk_implies<S: TermStore>(alloc: Global, store: &mut S, p: Id, q: Id) -> Result<Id, Memory>
     requires p { p < length (S.nodes store.old) }
     requires q { q < length (S.nodes store.old) }
-    ensures kept { Extends (S.nodes store.old) (S.nodes store.new) }
-    ensures made { IfOk result (λ r. r < length (S.nodes store.new)) }
-    ensures is { IfOk result (λ r. tree_at (S.nodes store.new) r ≡ nameless_implies (tree_at (S.nodes store.old) p) (tree_at (S.nodes store.old) q)) }
+    ensures { Builds (S.nodes store.old) (S.nodes store.new) result
+        (nameless_implies (tree_at (S.nodes store.old) p) (tree_at (S.nodes store.old) q)) }
 {
     let imp = mk_imp(alloc, store)?;
     let made = mk_binary(alloc, store, imp, p, q)?;
@@ -58,9 +56,8 @@ pub fn mk_implies<S: TermStore>(alloc: Global, store: &mut S, p: Id, q: Id) -> R
 /// `all p`, where `p` is a predicate over a type.
 pub fn mk_for_all<S: TermStore>(alloc: Global, store: &mut S, ty: Ty, p: Id) -> Result<Id, Memory>
     requires { p < length (S.nodes store.old) }
-    ensures kept { Extends (S.nodes store.old) (S.nodes store.new) }
-    ensures made { IfOk result (λ r. r < length (S.nodes store.new)) }
-    ensures is { IfOk result (λ r. tree_at (S.nodes store.new) r ≡ nameless_for_all ty (tree_at (S.nodes store.old) p)) }
+    ensures { Builds (S.nodes store.old) (S.nodes store.new) result
+        (nameless_for_all ty (tree_at (S.nodes store.old) p)) }
 {
     let all = mk_all(alloc, store, ty)?;
     let made = store.mk_app(alloc, all, p)?;
@@ -69,9 +66,7 @@ pub fn mk_for_all<S: TermStore>(alloc: Global, store: &mut S, ty: Ty, p: Id) -> 
 
 /// `F`: all q. q at bool.
 pub fn mk_falsity<S: TermStore>(alloc: Global, store: &mut S) -> Result<Id, Memory>
-    ensures kept { Extends (S.nodes store.old) (S.nodes store.new) }
-    ensures made { IfOk result (λ r. r < length (S.nodes store.new)) }
-    ensures is { IfOk result (λ r. tree_at (S.nodes store.new) r ≡ nameless_falsity) }
+    ensures { Builds (S.nodes store.old) (S.nodes store.new) result nameless_falsity }
 {
     let bool = Ty::bool(alloc)?;
     let q = store.mk_bound(alloc, 0)?;

@@ -1,7 +1,7 @@
 //! Types of functions: what they go from and to.
 ghost use Rattle.std.specs.Prelude.{◌≡◌, IfOk};
 ghost use Rattle.lt_definitions.specs.Rules.{joined_type, predicate_over};
-ghost use Rattle.lt_formulas.specs.FunctionTypes.{function_parts};
+ghost use Rattle.lt_types.specs.FunctionTypes.{function_parts};
 
 use lt_hol::{Memory, Name, TryCopy, Ty, match_type, tsub};
 use std::alloc::Global;

@@ -7,7 +7,7 @@ ghost use Rattle.lt_formulas.specs.Redexes.{body_of, redex_parts, is_innermost, 
 use lt_store::{Id, TermStore, View};
 
 /// The body of an abstraction.
-pub fn body_of<S: TermStore>(store: &S, t: Id) -> Option<Id>
+pub(crate) fn body_of<S: TermStore>(store: &S, t: Id) -> Option<Id>
     requires { t < length (S.nodes store.now) }
     ensures is { option_map (tree_at (S.nodes store.now)) result ≡ body_of (tree_at (S.nodes store.now) t) }
     ensures within { IfSome result (λ b. b < length (S.nodes store.now)) }

@@ -6,7 +6,6 @@ ghost use Rattle.lt_nameless.specs.NamelessRules.{nameless_as_equation, nameless
 ghost use Rattle.lt_store.specs.Trees.{tree_at};
 ghost use Rattle.lt_formulas.specs.Shapes.{is_imp, only_type, type_argument};
 
-use crate::word::is_word;
 use lt_hol::{Memory, TryCopy, Ty, Tys};
 use lt_store::{Id, TermStore, View};
 use std::alloc::Global;
@@ -45,7 +44,7 @@ fn type_argument<'a, S: TermStore>(store: &'a S, t: Id, word: &str) -> Option<&'
 {
     match store.view(t) {
         View::Const(name, types) => {
-            if is_word(name, word) {
+            if name.is_word(word) {
                 only_type(types)
             } else {
                 None
@@ -61,7 +60,7 @@ fn is_imp<S: TermStore>(store: &S, t: Id) -> bool
     ensures { result ≡ is_imp (tree_at (S.nodes store.now) t) }
 {
     match store.view(t) {
-        View::Const(name, types) => types.len() == 0 && is_word(name, "imp"),
+        View::Const(name, types) => types.len() == 0 && name.is_word("imp"),
         _ => false,
     }
 }

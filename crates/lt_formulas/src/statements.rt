@@ -1,8 +1,9 @@
 //! The statements that the rules `select` and `ccontr` give, made in a store.
-ghost use Rattle.std.specs.Prelude.{◌≡◌, ◌<◌, ◌∷◌, [], length, codes, IfOk};
+ghost use Rattle.std.specs.Prelude.{◌<◌, ◌∷◌, [], length, codes};
 ghost use Rattle.lt_nameless.specs.Nameless.{nameless_constant, nameless_application, nameless_bound};
 ghost use Rattle.lt_nameless.specs.NamelessRules.{nameless_implies, nameless_falsity, nameless_selection};
-ghost use Rattle.lt_store.specs.Trees.{tree_at, Extends};
+ghost use Rattle.lt_store.specs.Trees.{tree_at};
+ghost use Rattle.lt_store.specs.Building.{Builds};
 
 use crate::connectives::{mk_falsity, mk_for_all, mk_implies};
 use crate::constants::mk_eps;
@@ -13,9 +14,8 @@ use std::alloc::Global;
 /// `p x`, where `x` is the bound name of the innermost binder.
 fn mk_of_bound<S: TermStore>(alloc: Global, store: &mut S, p: Id) -> Result<Id, Memory>
     requires { p < length (S.nodes store.old) }
-    ensures kept { Extends (S.nodes store.old) (S.nodes store.new) }
-    ensures made { IfOk result (λ r. r < length (S.nodes store.new)) }
-    ensures is { IfOk result (λ r. tree_at (S.nodes store.new) r ≡ nameless_application (tree_at (S.nodes store.old) p) (nameless_bound 0)) }
+    ensures { Builds (S.nodes store.old) (S.nodes store.new) result
+        (nameless_application (tree_at (S.nodes store.old) p) (nameless_bound 0)) }
 {
     let x = store.mk_bound(alloc, 0)?;
     let made = store.mk_app(alloc, p, x)?;
@@ -25,9 +25,8 @@ fn mk_of_bound<S: TermStore>(alloc: Global, store: &mut S, p: Id) -> Result<Id, 
 /// `eps p`, where `p` is a predicate over the type.
 fn mk_some<S: TermStore>(alloc: Global, store: &mut S, ty: Ty, p: Id) -> Result<Id, Memory>
     requires { p < length (S.nodes store.old) }
-    ensures kept { Extends (S.nodes store.old) (S.nodes store.new) }
-    ensures made { IfOk result (λ r. r < length (S.nodes store.new)) }
-    ensures is { IfOk result (λ r. tree_at (S.nodes store.new) r ≡ nameless_application (nameless_constant (codes "eps") (ty ∷ [])) (tree_at (S.nodes store.old) p)) }
+    ensures { Builds (S.nodes store.old) (S.nodes store.new) result
+        (nameless_application (nameless_constant (codes "eps") (ty ∷ [])) (tree_at (S.nodes store.old) p)) }
 {
     let eps = mk_eps(alloc, store, ty)?;
     let made = store.mk_app(alloc, eps, p)?;
@@ -37,9 +36,8 @@ fn mk_some<S: TermStore>(alloc: Global, store: &mut S, ty: Ty, p: Id) -> Result<
 /// `p (eps p)`
 fn mk_of_some<S: TermStore>(alloc: Global, store: &mut S, ty: Ty, p: Id) -> Result<Id, Memory>
     requires { p < length (S.nodes store.old) }
-    ensures kept { Extends (S.nodes store.old) (S.nodes store.new) }
-    ensures made { IfOk result (λ r. r < length (S.nodes store.new)) }
-    ensures is { IfOk result (λ r. tree_at (S.nodes store.new) r ≡ nameless_application (tree_at (S.nodes store.old) p) (nameless_application (nameless_constant (codes "eps") (ty ∷ [])) (tree_at (S.nodes store.old) p))) }
+    ensures { Builds (S.nodes store.old) (S.nodes store.new) result
+        (nameless_application (tree_at (S.nodes store.old) p) (nameless_application (nameless_constant (codes "eps") (ty ∷ [])) (tree_at (S.nodes store.old) p))) }
 {
     let some = mk_some(alloc, store, ty, p)?;
     let made = store.mk_app(alloc, p, some)?;
@@ -49,9 +47,8 @@ fn mk_of_some<S: TermStore>(alloc: Global, store: &mut S, ty: Ty, p: Id) -> Resu
 /// `p x --> p (eps p)`, where `x` is the bound name of the innermost binder.
 fn mk_chosen<S: TermStore>(alloc: Global, store: &mut S, ty: Ty, p: Id) -> Result<Id, Memory>
     requires { p < length (S.nodes store.old) }
-    ensures kept { Extends (S.nodes store.old) (S.nodes store.new) }
-    ensures made { IfOk result (λ r. r < length (S.nodes store.new)) }
-    ensures is { IfOk result (λ r. tree_at (S.nodes store.new) r ≡ nameless_implies (nameless_application (tree_at (S.nodes store.old) p) (nameless_bound 0)) (nameless_application (tree_at (S.nodes store.old) p) (nameless_application (nameless_constant (codes "eps") (ty ∷ [])) (tree_at (S.nodes store.old) p)))) }
+    ensures { Builds (S.nodes store.old) (S.nodes store.new) result
+        (nameless_implies (nameless_application (tree_at (S.nodes store.old) p) (nameless_bound 0)) (nameless_application (tree_at (S.nodes store.old) p) (nameless_application (nameless_constant (codes "eps") (ty ∷ [])) (tree_at (S.nodes store.old) p)))) }
 {
     let of_x = mk_of_bound(alloc, store, p)?;
     let of_some = mk_of_some(alloc, store, ty, p)?;
@@ -62,9 +59,8 @@ fn mk_chosen<S: TermStore>(alloc: Global, store: &mut S, ty: Ty, p: Id) -> Resul
 /// `all x. p x --> p (eps p)`
 pub fn mk_selection<S: TermStore>(alloc: Global, store: &mut S, ty: Ty, p: Id) -> Result<Id, Memory>
     requires { p < length (S.nodes store.old) }
-    ensures kept { Extends (S.nodes store.old) (S.nodes store.new) }
-    ensures made { IfOk result (λ r. r < length (S.nodes store.new)) }
-    ensures is { IfOk result (λ r. tree_at (S.nodes store.new) r ≡ nameless_selection ty (tree_at (S.nodes store.old) p)) }
+    ensures { Builds (S.nodes store.old) (S.nodes store.new) result
+        (nameless_selection ty (tree_at (S.nodes store.old) p)) }
 {
     let chosen = mk_chosen(alloc, store, ty.copy(alloc)?, p)?;
     let predicate = store.mk_lam(alloc, ty.copy(alloc)?, chosen)?;
@@ -75,9 +71,8 @@ pub fn mk_selection<S: TermStore>(alloc: Global, store: &mut S, ty: Ty, p: Id) -
 /// `((p --> F) --> F) --> p`
 pub fn mk_double_negation<S: TermStore>(alloc: Global, store: &mut S, p: Id) -> Result<Id, Memory>
     requires { p < length (S.nodes store.old) }
-    ensures kept { Extends (S.nodes store.old) (S.nodes store.new) }
-    ensures made { IfOk result (λ r. r < length (S.nodes store.new)) }
-    ensures is { IfOk result (λ r. tree_at (S.nodes store.new) r ≡ nameless_implies (nameless_implies (nameless_implies (tree_at (S.nodes store.old) p) nameless_falsity) nameless_falsity) (tree_at (S.nodes store.old) p)) }
+    ensures { Builds (S.nodes store.old) (S.nodes store.new) result
+        (nameless_implies (nameless_implies (nameless_implies (tree_at (S.nodes store.old) p) nameless_falsity) nameless_falsity) (tree_at (S.nodes store.old) p)) }
 {
     let falsity = mk_falsity(alloc, store)?;
     let denied = mk_implies(alloc, store, p, falsity)?;

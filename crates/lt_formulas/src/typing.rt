@@ -1,8 +1,9 @@
 //! The types of terms without a fault.
-ghost use Rattle.std.specs.Prelude.{◌≡◌, ◌<◌, length, None, IfOk};
+ghost use Rattle.std.specs.Prelude.{◌≡◌, IfOk};
 ghost use Rattle.lt_definitions.specs.Types.{bool};
-ghost use Rattle.lt_nameless.specs.NamelessRules.{nameless_fault, nameless_has_type, nameless_type_of};
+ghost use Rattle.lt_nameless.specs.NamelessRules.{nameless_has_type, nameless_type_of};
 ghost use Rattle.lt_store.specs.Trees.{tree_at};
+ghost use Rattle.lt_store.specs.Typed.{IsTyped};
 
 use lt_hol::{Memory, Signature, Ty};
 use lt_store::{Id, TermStore, type_at};
@@ -16,8 +17,7 @@ pub fn has_type<S: TermStore>(
     t: Id,
     ty: &Ty,
 ) -> Result<bool, Memory>
-    requires t { t < length (S.nodes store.now) }
-    requires typed { nameless_fault sig.now (tree_at (S.nodes store.now) t) ≡ None }
+    requires { IsTyped sig.now (S.nodes store.now) t }
     ensures { IfOk result (λ holds. holds ≡ nameless_has_type sig.now (tree_at (S.nodes store.now) t) ty.now) }
 {
     match type_at(alloc, store, sig, t) {
@@ -33,8 +33,7 @@ pub fn is_boolean<S: TermStore>(
     sig: &Signature,
     p: Id,
 ) -> Result<bool, Memory>
-    requires p { p < length (S.nodes store.now) }
-    requires typed { nameless_fault sig.now (tree_at (S.nodes store.now) p) ≡ None }
+    requires { IsTyped sig.now (S.nodes store.now) p }
     ensures { IfOk result (λ holds. holds ≡ nameless_has_type sig.now (tree_at (S.nodes store.now) p) bool) }
 {
     let bool = Ty::bool(alloc)?;
@@ -43,8 +42,7 @@ pub fn is_boolean<S: TermStore>(
 
 /// The type of a term without a fault.
 pub fn type_of<S: TermStore>(alloc: Global, store: &S, sig: &Signature, t: Id) -> Result<Ty, Memory>
-    requires t { t < length (S.nodes store.now) }
-    requires typed { nameless_fault sig.now (tree_at (S.nodes store.now) t) ≡ None }
+    requires { IsTyped sig.now (S.nodes store.now) t }
     ensures { IfOk result (λ ty. ty ≡ nameless_type_of sig.now (tree_at (S.nodes store.now) t)) }
 {
     match type_at(alloc, store, sig, t) {

@@ -12,8 +12,8 @@ use Rattle.lt_store.specs.declared.node.Node.TheVariants.{Free, Bound, Const, Ap
 use Rattle.lt_store.specs.Trees.{tree_at, node_tree, tree_size, IsBelow, IsGrounded}
 use Rattle.lt_store.specs.Memos.{Memo, result_at, IsKept}
 use Rattle.lt_store.specs.Parts.{parts_of}
-use Rattle.lt_store.proofs.Trees.{tree_at-node, tree_size-positive}
-use Rattle.lt_store.proofs.Memos.{Keeps, keeps_more, keeps_own, kept_back, result_of, kept_from}
+use Rattle.lt_store.proofs.TreeLemmas.{tree_at-node, tree_size-positive}
+use Rattle.lt_store.proofs.MemoLemmas.{Keeps, keeps_more, keeps_own, kept_back, result_of, kept_from}
 
 -- the pairs stand for the same terms
 abbrev pub AllSame : List Node → List (ℕ × ℕ) → Type 0

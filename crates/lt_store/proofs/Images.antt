@@ -9,12 +9,12 @@ use Rattle.lt_store.specs.declared.change.Change.TheVariants.{Open, Close, Repla
 use Rattle.lt_store.specs.declared.change.Sought.{Sought}
 use Rattle.lt_store.specs.declared.change.Sought.TheVariants.{Variable, Loose}
 use Rattle.lt_store.specs.declared.change.Work.{Work}
-use Rattle.lt_store.specs.declared.change.Work.TheVariants.{Make, Find}
+use Rattle.lt_store.specs.declared.change.Work.TheVariants.{Make, Find, Measure}
 use Rattle.lt_store.specs.Trees.{tree_at, Extends}
 use Rattle.lt_store.specs.Memos.{Memo, result_at}
-use Rattle.lt_store.specs.Passes.{image, type_image, occurs, change_step, sought_step, ChangeIsIn, WorkIsIn, number, IsResult, IsSound}
-use Rattle.lt_store.proofs.Trees.{tree_at-extends}
-use Rattle.lt_store.proofs.Memos.{Keeps, kept_back}
+use Rattle.lt_store.specs.Passes.{image, type_image, occurs, longest_free, change_step, sought_step, ChangeIsIn, WorkIsIn, number, IsResult, IsSound}
+use Rattle.lt_store.proofs.TreeLemmas.{tree_at-extends}
+use Rattle.lt_store.proofs.MemoLemmas.{Keeps, kept_back}
 
 one_more : (d : ℕ) → suc d ≡ d + 1
 one_more d = omega arith
@@ -83,6 +83,7 @@ ChangeIsIn-wider m n (Types t) h i = tt
 pub WorkIsIn-wider : (m n : ℕ) (w : Work) → m ≤ n → WorkIsIn m w → WorkIsIn n w
 WorkIsIn-wider m n (Make c) h i = ChangeIsIn-wider m n c h i
 WorkIsIn-wider m n (Find s) h i = tt
+WorkIsIn-wider m n Measure h i = tt
 
 -- a result that was made
 pub made_result : (old new : List Node) (c : Change) (i d r : ℕ) → Extends old new → ChangeIsIn (length old) c → i < length old
@@ -94,6 +95,7 @@ result-extends : (old new : List Node) (w : Work) (i d r : ℕ) → Extends old 
 result-extends old new (Make c) i d r e h hi is =
     made_result old new c i d r e h hi (omega (arith, e.grows, is.0)) (tree_at-extends old new r e is.0 ∙ is.1)
 result-extends old new (Find s) i d r e h hi is = is ∙ ap (λ t. number (occurs s d t)) (sym (tree_at-extends old new i e hi))
+result-extends old new Measure i d r e h hi is = is ∙ ap longest_free (sym (tree_at-extends old new i e hi))
 
 pub sound-extends : (old new : List Node) (w : Work) (m : Memo) → Extends old new → WorkIsIn (length old) w → IsSound w old m → IsSound w new m
 sound-extends old new w m e h sound i d r at =

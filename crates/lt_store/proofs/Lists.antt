@@ -10,7 +10,7 @@ use Rattle.lt_store.specs.declared.change.Sought.{Sought}
 use Rattle.lt_store.specs.declared.change.Work.TheVariants.{Make, Find}
 use Rattle.lt_store.specs.Trees.{tree_at, trees, AllBelow, Extends}
 use Rattle.lt_store.specs.Passes.{image, occurs, ChangeIsIn, IsResult, number}
-use Rattle.lt_store.proofs.Trees.{tree_at-extends, extends_on}
+use Rattle.lt_store.proofs.TreeLemmas.{tree_at-extends, extends_on}
 use Rattle.lt_store.proofs.Images.{image-extends, number_true, number_false}
 
 pub trees-extends : (old new : List Node) (ids : List ℕ) → Extends old new → AllBelow (length old) ids → trees new ids ≡ trees old ids

@@ -1,4 +1,6 @@
 pub mod Trees
+pub mod Building
+pub mod Typed
 pub mod Views
 pub mod Memos
 pub mod Parts

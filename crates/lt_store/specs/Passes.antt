@@ -1,7 +1,7 @@
 -- What a pass over a term makes, or tells.
-use Rattle.std.specs.Prelude.{◌≡◌, ℕ, ◌+◌, ◌<◌, List, [], ◌∷◌, Bool, length, if◌then◌else◌, Some}
+use Rattle.std.specs.Prelude.{◌≡◌, ℕ, ◌+◌, ◌<◌, List, [], ◌∷◌, Bool, length, max, if◌then◌else◌, Some}
 use Rattle.lt_definitions.specs.Types.{TypeTree, type_instance}
-use Rattle.lt_nameless.specs.Nameless.{Nameless}
+use Rattle.lt_nameless.specs.Nameless.{Nameless, nameless_free, nameless_bound, nameless_loose, nameless_constant, nameless_application, nameless_abstraction}
 use Rattle.lt_nameless.specs.NamelessRules.{instance_at, abstracted, nameless_replaced, nameless_instance, nameless_has_free, has_index}
 use Rattle.lt_store.specs.declared.node.Node.{Node}
 use Rattle.lt_store.specs.declared.node.Node.TheVariants as node
@@ -10,7 +10,7 @@ use Rattle.lt_store.specs.declared.change.Change.TheVariants.{Open, Close, Repla
 use Rattle.lt_store.specs.declared.change.Sought.{Sought}
 use Rattle.lt_store.specs.declared.change.Sought.TheVariants.{Variable, Loose}
 use Rattle.lt_store.specs.declared.change.Work.{Work}
-use Rattle.lt_store.specs.declared.change.Work.TheVariants.{Make, Find}
+use Rattle.lt_store.specs.declared.change.Work.TheVariants.{Make, Find, Measure}
 use Rattle.lt_store.specs.Trees.{tree_at}
 use Rattle.lt_store.specs.Memos.{Memo, result_at}
 
@@ -47,6 +47,7 @@ sought_step Loose = 1
 abbrev pub step_of : Work → ℕ
 step_of (Make c) = change_step c
 step_of (Find f) = sought_step f
+step_of Measure = 0
 
 -- the term that is put is in the store
 abbrev pub ChangeIsIn : ℕ → Change → Type 0
@@ -58,15 +59,30 @@ ChangeIsIn n (Types m) = Unit {0}
 abbrev pub WorkIsIn : ℕ → Work → Type 0
 WorkIsIn n (Make c) = ChangeIsIn n c
 WorkIsIn n (Find f) = Unit {0}
+WorkIsIn n Measure = Unit {0}
+
+-- the length of the longest name of a free variable of a term, and of terms
+abbrev pub longest_free : Nameless → ℕ
+longest_free (nameless_free x ty) = length x
+longest_free (nameless_bound i) = 0
+longest_free (nameless_loose x) = 0
+longest_free (nameless_constant c ts) = 0
+longest_free (nameless_application f a) = max (longest_free f) (longest_free a)
+longest_free (nameless_abstraction ty b) = longest_free b
+
+abbrev pub longest_free_of : List Nameless → ℕ
+longest_free_of [] = 0
+longest_free_of (t ∷ ts) = max (longest_free t) (longest_free_of ts)
 
 -- a test as a number
 abbrev pub number : Bool → ℕ
 number b = if b then 1 else 0
 
--- the result for an id under d binders: an id of its image, or the answer as a number
+-- the result for an id under d binders: an id of its image, the answer as a number, or the length
 abbrev pub IsResult : Work → List Node → ℕ → ℕ → ℕ → Type 0
 IsResult (Make c) ns i d r = (r < length ns) × (tree_at ns r ≡ image ns c d (tree_at ns i))
 IsResult (Find f) ns i d r = r ≡ number (occurs f d (tree_at ns i))
+IsResult Measure ns i d r = r ≡ longest_free (tree_at ns i)
 
 -- each result that was kept is right
 abbrev pub IsSound : Work → List Node → Memo → Type 0

@@ -67,6 +67,11 @@ pub record Makes (old new : List Node) (node : Node) (id : ℕ) : Type 0 where
   pub below : IsBelow id node
   pub stands : tree_at new id ≡ node_tree old node
 
+-- The node is the last one, behind those that were there, and the id is its place.
+pub record Appends (old new : List Node) (node : Node) (id : ℕ) : Type 0 where
+  pub nodes : new ≡ old ++ node ∷ []
+  pub place : id ≡ length old
+
 -- how many nodes a term has
 abbrev pub tree_size : Nameless → ℕ
 tree_size (nameless_free n t) = 1

@@ -1,9 +1,9 @@
-//! What a pass over a term does: it changes something, or looks for something.
+//! What a pass over a term does: it changes something, looks for something, or measures names.
 ghost use Rattle.std.specs.Prelude.{◌≡◌, ◌≤◌, IfOk};
 ghost use Rattle.lt_store.specs.Passes.{change_step, sought_step, step_of, type_image};
 
 use crate::node::Id;
-use lt_types::{Memory, Name, TryCopy, Ty, TyMap, tsub};
+use lt_hol::{Memory, Name, TryCopy, Ty, TyMap, tsub};
 use std::alloc::Global;
 
 /// What is put in place of what.
@@ -33,24 +33,27 @@ pub enum Sought<'a> {
 pub enum Work<'a> {
     Make(Change<'a>),
     Find(Sought<'a>),
+    /// The length of the longest name of a free variable.
+    Measure,
 }
 
 impl Work<'_> {
     /// By how much the depth of a binder's body is greater: 0 where the depth doesn't matter,
     /// so that a shared node is worked on once.
-    pub fn step(self) -> usize
+    pub(crate) fn step(self) -> usize
         ensures step { result ≡ step_of self.entry }
         ensures most { result ≤ 1 }
     {
         match self {
             Work::Make(change) => change.step(),
             Work::Find(sought) => sought.step(),
+            Work::Measure => 0,
         }
     }
 }
 
 impl Sought<'_> {
-    pub fn step(self) -> usize
+    pub(crate) fn step(self) -> usize
         ensures step { result ≡ sought_step self.entry }
         ensures most { result ≤ 1 }
     {
@@ -62,7 +65,7 @@ impl Sought<'_> {
 }
 
 impl Change<'_> {
-    pub fn step(self) -> usize
+    pub(crate) fn step(self) -> usize
         ensures step { result ≡ change_step self.entry }
         ensures most { result ≤ 1 }
     {
@@ -73,7 +76,7 @@ impl Change<'_> {
     }
 
     /// What a type becomes.
-    pub fn ty(self, alloc: Global, ty: &Ty) -> Result<Ty, Memory>
+    pub(crate) fn ty(self, alloc: Global, ty: &Ty) -> Result<Ty, Memory>
         ensures { IfOk result (λ t. t ≡ type_image self.entry ty.now) }
     {
         match self {

@@ -4,19 +4,20 @@ ghost use Rattle.lt_definitions.specs.Types.{same_name, same_type, type_instance
 ghost use Rattle.lt_nameless.specs.Nameless.{nameless_free, nameless_bound, nameless_constant};
 ghost use Rattle.lt_store.specs.declared.node.Node.{Node};
 ghost use Rattle.lt_store.specs.declared.change.Work.TheVariants as work;
-ghost use Rattle.lt_store.specs.Trees.{tree_at, Extends};
+ghost use Rattle.lt_store.specs.Trees.{tree_at};
+ghost use Rattle.lt_store.specs.Building.{Builds};
 ghost use Rattle.lt_store.specs.Memos.{AllKept};
-ghost use Rattle.lt_store.specs.Passes.{image, occurs, children, change_step, sought_step, ChangeIsIn, IsSound, number};
+ghost use Rattle.lt_store.specs.Passes.{image, occurs, longest_free, children, change_step, sought_step, ChangeIsIn, IsSound, number};
 
 use crate::change::{Change, Sought};
 use crate::memo::{Memo, kept};
 use crate::node::{Id, View};
 use crate::term_store::TermStore;
-use lt_types::{List, Memory, Name, TryCopy, Ty, TyMap, Tys, tsub};
+use lt_hol::{List, Memory, Name, TryCopy, Ty, TyMap, Tys, tsub};
 use std::alloc::Global;
 
 /// Whether a free variable has the name and the type.
-pub fn is_variable(name: &Name, ty: &Ty, other: &Name, of: &Ty) -> bool
+pub(crate) fn is_variable(name: &Name, ty: &Ty, other: &Name, of: &Ty) -> bool
     ensures { result ≡ (same_name name.now other.now && same_type ty.now of.now) }
 {
     *name == *other && *ty == *of
@@ -46,9 +47,8 @@ fn image_of_free<S: TermStore>(
     requires id { id < length (S.nodes store.old) }
     requires is { tree_at (S.nodes store.old) id ≡ nameless_free name ty }
     requires change { ChangeIsIn (length (S.nodes store.old)) change }
-    ensures kept { Extends (S.nodes store.old) (S.nodes store.new) }
-    ensures made { IfOk result (λ r. r < length (S.nodes store.new)) }
-    ensures image { IfOk result (λ r. tree_at (S.nodes store.new) r ≡ image (S.nodes store.old) change.entry depth (nameless_free name ty)) }
+    ensures { Builds (S.nodes store.old) (S.nodes store.new) result
+        (image (S.nodes store.old) change.entry depth (nameless_free name ty)) }
 {
     match change {
         Change::Open(_) => Ok(id),
@@ -82,9 +82,8 @@ fn image_of_constant<S: TermStore>(
 ) -> Result<Id, Memory>
     requires id { id < length (S.nodes store.old) }
     requires is { tree_at (S.nodes store.old) id ≡ nameless_constant name types }
-    ensures kept { Extends (S.nodes store.old) (S.nodes store.new) }
-    ensures made { IfOk result (λ r. r < length (S.nodes store.new)) }
-    ensures image { IfOk result (λ r. tree_at (S.nodes store.new) r ≡ image (S.nodes store.old) change.entry depth (nameless_constant name types)) }
+    ensures { Builds (S.nodes store.old) (S.nodes store.new) result
+        (image (S.nodes store.old) change.entry depth (nameless_constant name types)) }
 {
     match change {
         Change::Open(_) => Ok(id),
@@ -124,7 +123,7 @@ fn are_same(function: Id, argument: Id, f: Id, a: Id) -> bool
 }
 
 /// What a node becomes. A node whose children stay is kept.
-pub fn image_of<S: TermStore>(
+pub(crate) fn image_of<S: TermStore>(
     alloc: Global,
     store: &mut S,
     change: Change<'_>,
@@ -137,9 +136,8 @@ pub fn image_of<S: TermStore>(
     requires change { ChangeIsIn (length (S.nodes store.old)) change }
     requires sound { IsSound (work.Make change) (S.nodes store.old) memo.now }
     requires ready { (n : Node) → slice_get (S.nodes store.old) id ≡ Some n → AllKept memo.now (children (change_step change) n depth) }
-    ensures kept { Extends (S.nodes store.old) (S.nodes store.new) }
-    ensures made { IfOk result (λ r. r < length (S.nodes store.new)) }
-    ensures image { IfOk result (λ r. tree_at (S.nodes store.new) r ≡ image (S.nodes store.old) change.entry depth (tree_at (S.nodes store.old) id)) }
+    ensures { Builds (S.nodes store.old) (S.nodes store.new) result
+        (image (S.nodes store.old) change.entry depth (tree_at (S.nodes store.old) id)) }
 {
     match store.view(id) {
         View::App(f, a) => {
@@ -178,7 +176,7 @@ fn number(test: bool) -> usize
 }
 
 /// Whether what is looked for occurs in a node, as a number.
-pub fn found_in<S: TermStore>(
+pub(crate) fn found_in<S: TermStore>(
     store: &S,
     sought: Sought<'_>,
     memo: &Memo,
@@ -209,5 +207,21 @@ pub fn found_in<S: TermStore>(
             Sought::Loose => number(index == depth),
         },
         View::Const(_, _) => 0,
+    }
+}
+
+/// The length of the longest name of a free variable in a node.
+pub(crate) fn measured<S: TermStore>(store: &S, memo: &Memo, id: Id, depth: usize) -> usize
+    requires id { id < length (S.nodes store.now) }
+    requires depth { depth + 1 < 2 ^ 64 }
+    requires sound { IsSound work.Measure (S.nodes store.now) memo.now }
+    requires ready { (n : Node) → slice_get (S.nodes store.now) id ≡ Some n → AllKept memo.now (children 0 n depth) }
+    ensures { result ≡ longest_free (tree_at (S.nodes store.now) id) }
+{
+    match store.view(id) {
+        View::App(f, a) => kept(memo, f, depth).max(kept(memo, a, depth)),
+        View::Lam(_, body) => kept(memo, body, depth),
+        View::Free(name, _) => name.len(),
+        View::Bound(_) | View::Const(_, _) => 0,
     }
 }

@@ -20,7 +20,8 @@ mod typing;
 pub use naming::from_store;
 pub use node::{Id, Node, View};
 pub use passes::{
-    abstract_free, has_free, has_loose, instantiate, replace_free, type_instance, type_instances,
+    abstract_free, has_free, has_loose, instantiate, longest_free, replace_free, type_instance,
+    type_instances,
 };
 pub use plain_store::PlainStore;
 pub use storing::to_store;

@@ -7,8 +7,7 @@ ghost use Rattle.lt_store.specs.NameTasks.{binder_name, HasNames, Leaves, Turns}
 
 use crate::node::{Id, View};
 use crate::term_store::TermStore;
-use lt_hol::{Term, TermBuilder};
-use lt_types::{Memory, Name, TryCopy, Ty};
+use lt_hol::{Memory, Name, Term, TermBuilder, TryCopy, Ty};
 use std::alloc::Global;
 
 /// What is still to be done.

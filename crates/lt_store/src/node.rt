@@ -2,14 +2,15 @@
 ghost use Rattle.std.specs.Prelude.{◌≡◌};
 ghost use Rattle.lt_store.specs.Views.{node_of};
 
-use lt_types::{Name, Ty, Tys};
+use lt_hol::{Name, Ty, Tys};
 
 /// The index of a term in a store.
 pub type Id = usize;
 
-/// A node of a term: a free variable with its type; a bound name, as the number of binders between it and its own;
-/// a constant with its type arguments; a function applied to an argument; an abstraction, as its binder's type and its body.
-#[derive(Debug, Drop)]
+/// A node of a term: a free variable with its type; a bound name, as the number of binders
+/// between it and its own; a constant with its type arguments; a function applied to an argument;
+/// an abstraction, as its binder's type and its body.
+#[derive(Debug, Drop, PartialEq, Eq, Hash)]
 pub enum Node {
     Free(Name, Ty),
     Bound(usize),

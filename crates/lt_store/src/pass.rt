@@ -8,11 +8,11 @@ ghost use Rattle.lt_store.specs.Tasks.{visits};
 ghost use Rattle.lt_store.specs.Passes.{children, step_of, WorkIsIn, IsSound, IsResult};
 
 use crate::change::Work;
-use crate::image::{found_in, image_of};
+use crate::image::{found_in, image_of, measured};
 use crate::memo::{Memo, keep, kept, look};
 use crate::node::{Id, View};
 use crate::term_store::TermStore;
-use lt_types::Memory;
+use lt_hol::Memory;
 use std::alloc::Global;
 
 /// What is still to be done: to visit an id at a depth, or to make its result from those of its children.
@@ -66,6 +66,7 @@ fn result_of<S: TermStore>(
             Ok(made)
         }
         Work::Find(sought) => Ok(found_in(store, sought, memo, id, depth)),
+        Work::Measure => Ok(measured(store, memo, id, depth)),
     }
 }
 
@@ -73,7 +74,7 @@ fn result_of<S: TermStore>(
 ///
 /// Each node is worked on once for each depth at which it lies, or once where the depth doesn't matter.
 /// What `memo` has from an earlier pass of the same work isn't worked on again.
-pub fn run<S: TermStore>(
+pub(crate) fn run<S: TermStore>(
     alloc: Global,
     store: &mut S,
     work: Work<'_>,

@@ -3,13 +3,14 @@ ghost use Rattle.std.specs.Prelude.{◌≡◌, ◌<◌, length, map, IfOk};
 ghost use Rattle.std.specs.List.{list_any};
 ghost use Rattle.lt_nameless.specs.NamelessRules.{instance_at, abstracted, nameless_replaced, nameless_instance, nameless_has_free, has_index};
 ghost use Rattle.lt_store.specs.Trees.{tree_at, trees, AllBelow, Extends};
-ghost use Rattle.lt_store.specs.Passes.{image, occurs, ChangeIsIn};
+ghost use Rattle.lt_store.specs.Building.{Builds, BuildsEach};
+ghost use Rattle.lt_store.specs.Passes.{image, occurs, longest_free_of, ChangeIsIn};
 
 use crate::change::{Change, Sought, Work};
 use crate::node::Id;
 use crate::pass::run;
 use crate::term_store::TermStore;
-use lt_types::{Ids, List, Memory, Name, Ty, TyMap};
+use lt_hol::{Ids, List, Memory, Name, Ty, TyMap};
 use std::alloc::Global;
 use std::collections::HashMap;
 
@@ -22,9 +23,8 @@ fn make_one<S: TermStore>(
 ) -> Result<Id, Memory>
     requires root { root < length (S.nodes store.old) }
     requires change { ChangeIsIn (length (S.nodes store.old)) change }
-    ensures kept { Extends (S.nodes store.old) (S.nodes store.new) }
-    ensures made { IfOk result (λ r. r < length (S.nodes store.new)) }
-    ensures is { IfOk result (λ r. tree_at (S.nodes store.new) r ≡ image (S.nodes store.old) change.entry 0 (tree_at (S.nodes store.old) root)) }
+    ensures { Builds (S.nodes store.old) (S.nodes store.new) result
+        (image (S.nodes store.old) change.entry 0 (tree_at (S.nodes store.old) root)) }
 {
     let mut memo = HashMap::new(alloc);
     let made = run(alloc, store, Work::Make(change), &mut memo, root)?;
@@ -40,9 +40,8 @@ fn make_each<S: TermStore>(
 ) -> Result<Ids, Memory>
     requires roots { AllBelow (length (S.nodes store.old)) roots.now }
     requires change { ChangeIsIn (length (S.nodes store.old)) change }
-    ensures kept { Extends (S.nodes store.old) (S.nodes store.new) }
-    ensures made { IfOk result (AllBelow (length (S.nodes store.new))) }
-    ensures is { IfOk result (λ rs. trees (S.nodes store.new) rs ≡ map (image (S.nodes store.old) change.entry 0) (trees (S.nodes store.old) roots.now)) }
+    ensures { BuildsEach (S.nodes store.old) (S.nodes store.new) result
+        (map (image (S.nodes store.old) change.entry 0) (trees (S.nodes store.old) roots.now)) }
 {
     let mut memo = HashMap::new(alloc);
     let mut made = List::new(alloc);
@@ -84,9 +83,8 @@ pub fn instantiate<S: TermStore>(
 ) -> Result<Id, Memory>
     requires body { body < length (S.nodes store.old) }
     requires by { by < length (S.nodes store.old) }
-    ensures kept { Extends (S.nodes store.old) (S.nodes store.new) }
-    ensures made { IfOk result (λ r. r < length (S.nodes store.new)) }
-    ensures is { IfOk result (λ r. tree_at (S.nodes store.new) r ≡ instance_at 0 (tree_at (S.nodes store.old) by) (tree_at (S.nodes store.old) body)) }
+    ensures { Builds (S.nodes store.old) (S.nodes store.new) result
+        (instance_at 0 (tree_at (S.nodes store.old) by) (tree_at (S.nodes store.old) body)) }
 {
     make_one(alloc, store, Change::Open(by), body)
 }
@@ -101,9 +99,8 @@ pub fn abstract_free<S: TermStore>(
     ty: &Ty,
 ) -> Result<Id, Memory>
     requires { t < length (S.nodes store.old) }
-    ensures kept { Extends (S.nodes store.old) (S.nodes store.new) }
-    ensures made { IfOk result (λ r. r < length (S.nodes store.new)) }
-    ensures is { IfOk result (λ r. tree_at (S.nodes store.new) r ≡ abstracted 0 name.now ty.now (tree_at (S.nodes store.old) t)) }
+    ensures { Builds (S.nodes store.old) (S.nodes store.new) result
+        (abstracted 0 name.now ty.now (tree_at (S.nodes store.old) t)) }
 {
     make_one(alloc, store, Change::Close(name, ty), t)
 }
@@ -116,9 +113,8 @@ pub fn type_instance<S: TermStore>(
     by: &TyMap,
 ) -> Result<Id, Memory>
     requires { t < length (S.nodes store.old) }
-    ensures kept { Extends (S.nodes store.old) (S.nodes store.new) }
-    ensures made { IfOk result (λ r. r < length (S.nodes store.new)) }
-    ensures is { IfOk result (λ r. tree_at (S.nodes store.new) r ≡ nameless_instance by.now (tree_at (S.nodes store.old) t)) }
+    ensures { Builds (S.nodes store.old) (S.nodes store.new) result
+        (nameless_instance by.now (tree_at (S.nodes store.old) t)) }
 {
     make_one(alloc, store, Change::Types(by), t)
 }
@@ -131,9 +127,8 @@ pub fn type_instances<S: TermStore>(
     by: &TyMap,
 ) -> Result<Ids, Memory>
     requires { AllBelow (length (S.nodes store.old)) ts.now }
-    ensures kept { Extends (S.nodes store.old) (S.nodes store.new) }
-    ensures made { IfOk result (AllBelow (length (S.nodes store.new))) }
-    ensures is { IfOk result (λ rs. trees (S.nodes store.new) rs ≡ map (nameless_instance by.now) (trees (S.nodes store.old) ts.now)) }
+    ensures { BuildsEach (S.nodes store.old) (S.nodes store.new) result
+        (map (nameless_instance by.now) (trees (S.nodes store.old) ts.now)) }
 {
     make_each(alloc, store, Change::Types(by), ts)
 }
@@ -149,9 +144,8 @@ pub fn replace_free<S: TermStore>(
 ) -> Result<Ids, Memory>
     requires ts { AllBelow (length (S.nodes store.old)) ts.now }
     requires by { by < length (S.nodes store.old) }
-    ensures kept { Extends (S.nodes store.old) (S.nodes store.new) }
-    ensures made { IfOk result (AllBelow (length (S.nodes store.new))) }
-    ensures is { IfOk result (λ rs. trees (S.nodes store.new) rs ≡ map (nameless_replaced name.now ty.now (tree_at (S.nodes store.old) by)) (trees (S.nodes store.old) ts.now)) }
+    ensures { BuildsEach (S.nodes store.old) (S.nodes store.new) result
+        (map (nameless_replaced name.now ty.now (tree_at (S.nodes store.old) by)) (trees (S.nodes store.old) ts.now)) }
 {
     make_each(alloc, store, Change::Replace(name, ty, by), ts)
 }
@@ -179,4 +173,20 @@ pub fn has_loose<S: TermStore>(alloc: Global, store: &mut S, t: Id) -> Result<bo
 {
     let mut memo = HashMap::new(alloc);
     Ok(run(alloc, store, Work::Find(Sought::Loose), &mut memo, t)? == 1)
+}
+
+/// The length of the longest name of a free variable in some terms, 0 where there is none.
+///
+/// A name that is longer is that of no free variable in them.
+pub fn longest_free<S: TermStore>(alloc: Global, store: &mut S, ts: &[Id]) -> Result<usize, Memory>
+    requires { AllBelow (length (S.nodes store.old)) ts.now }
+    ensures kept { Extends (S.nodes store.old) (S.nodes store.new) }
+    ensures is { IfOk result (λ n. n ≡ longest_free_of (trees (S.nodes store.old) ts.now)) }
+{
+    let mut memo = HashMap::new(alloc);
+    let mut longest = 0;
+    for t in ts {
+        longest = longest.max(run(alloc, store, Work::Measure, &mut memo, *t)?);
+    }
+    Ok(longest)
 }

@@ -1,12 +1,13 @@
 //! A store that makes each node anew.
-ghost use Rattle.std.specs.Prelude.{◌≡◌, [], length, IfOk};
+ghost use Rattle.std.specs.Prelude.{◌≡◌, ◌<◌, [], length, IfOk};
 ghost use Rattle.lt_store.specs.declared.node.Node.{Node};
-ghost use Rattle.lt_store.specs.Trees.{Makes, IsBelow, Extends};
+ghost use Rattle.lt_store.specs.declared.node.Node.TheVariants.{Free, Bound, Const, App, Lam};
+ghost use Rattle.lt_store.specs.Trees.{Makes, Appends, IsBelow, Extends};
 
 use crate::node::{Id, Node, View};
 use crate::same::is_same;
 use crate::term_store::TermStore;
-use lt_types::{Memory, Name, Ty, Tys};
+use lt_hol::{Memory, Name, Ty, Tys};
 use std::alloc::Global;
 use std::marker::Model;
 
@@ -50,6 +51,7 @@ impl PlainStore {
         requires { IsBelow (length self.old) node }
         ensures ok { IfOk result (Makes self.old self.new node) }
         ensures kept { Extends self.old self.new }
+        ensures anew { IfOk result (Appends self.old self.new node) }
     {
         let id = self.nodes.len();
         self.nodes.push(node)?;
@@ -68,23 +70,46 @@ impl TermStore for PlainStore {
         self.nodes[id].view()
     }
 
-    fn mk_free(&mut self, _alloc: Global, name: Name, ty: Ty) -> Result<Id, Memory> {
+    fn mk_free(&mut self, _alloc: Global, name: Name, ty: Ty) -> Result<Id, Memory>
+        ensures ok { IfOk result (Makes self.old self.new (Free name ty)) }
+        ensures kept { Extends self.old self.new }
+        ensures anew { IfOk result (Appends self.old self.new (Free name ty)) }
+    {
         self.add(Node::Free(name, ty))
     }
 
-    fn mk_bound(&mut self, _alloc: Global, index: usize) -> Result<Id, Memory> {
+    fn mk_bound(&mut self, _alloc: Global, index: usize) -> Result<Id, Memory>
+        ensures ok { IfOk result (Makes self.old self.new (Bound index)) }
+        ensures kept { Extends self.old self.new }
+        ensures anew { IfOk result (Appends self.old self.new (Bound index)) }
+    {
         self.add(Node::Bound(index))
     }
 
-    fn mk_const(&mut self, _alloc: Global, name: Name, types: Tys) -> Result<Id, Memory> {
+    fn mk_const(&mut self, _alloc: Global, name: Name, types: Tys) -> Result<Id, Memory>
+        ensures ok { IfOk result (Makes self.old self.new (Const name types)) }
+        ensures kept { Extends self.old self.new }
+        ensures anew { IfOk result (Appends self.old self.new (Const name types)) }
+    {
         self.add(Node::Const(name, types))
     }
 
-    fn mk_app(&mut self, _alloc: Global, f: Id, a: Id) -> Result<Id, Memory> {
+    fn mk_app(&mut self, _alloc: Global, f: Id, a: Id) -> Result<Id, Memory>
+        requires f { f < length self.old }
+        requires a { a < length self.old }
+        ensures ok { IfOk result (Makes self.old self.new (App f a)) }
+        ensures kept { Extends self.old self.new }
+        ensures anew { IfOk result (Appends self.old self.new (App f a)) }
+    {
         self.add(Node::App(f, a))
     }
 
-    fn mk_lam(&mut self, _alloc: Global, ty: Ty, body: Id) -> Result<Id, Memory> {
+    fn mk_lam(&mut self, _alloc: Global, ty: Ty, body: Id) -> Result<Id, Memory>
+        requires { body < length self.old }
+        ensures ok { IfOk result (Makes self.old self.new (Lam ty body)) }
+        ensures kept { Extends self.old self.new }
+        ensures anew { IfOk result (Appends self.old self.new (Lam ty body)) }
+    {
         self.add(Node::Lam(ty, body))
     }
 

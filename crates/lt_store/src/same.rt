@@ -7,7 +7,7 @@ ghost use Rattle.lt_store.specs.Parts.{parts_of};
 
 use crate::memo::{Memo, keep, look};
 use crate::node::{Id, Node, View};
-use lt_types::{Memory, Ty, Tys};
+use lt_hol::{Memory, Ty, Tys};
 use std::alloc::Global;
 use std::collections::HashMap;
 
@@ -78,7 +78,7 @@ fn push_parts(pairs: &mut Vec<(Id, Id)>, left: View<'_>, right: View<'_>) -> Res
 /// Whether two ids stand for one term.
 ///
 /// Each pair of nodes that lie at one path of both is looked at once, and a node beside itself not at all.
-pub fn is_same(alloc: Global, nodes: &[Node], a: Id, b: Id) -> Result<bool, Memory>
+pub(crate) fn is_same(alloc: Global, nodes: &[Node], a: Id, b: Id) -> Result<bool, Memory>
     requires grounded { IsGrounded nodes.now }
     requires a { a < length nodes.now }
     requires b { b < length nodes.now }

@@ -2,13 +2,13 @@
 ghost use Rattle.std.specs.Prelude.{◌≡◌, ◌<◌, ◌≤◌, [], ◌∷◌, length, IfOk, IsSome};
 ghost use Rattle.lt_nameless.specs.Nameless.{nameless, IsWhole};
 ghost use Rattle.lt_store.specs.Trees.{tree_at, AllBelow, Extends};
+ghost use Rattle.lt_store.specs.Building.{Builds};
 ghost use Rattle.lt_store.specs.Stacks.{stack, joined, covered, index_of, grown, HasParts};
 
 use crate::last::take_last;
 use crate::node::Id;
 use crate::term_store::TermStore;
-use lt_hol::{Binder, Term, TermNode, binders};
-use lt_types::{Memory, TryCopy, Ty};
+use lt_hol::{Binder, Memory, Term, TermNode, TryCopy, Ty, binders};
 use std::alloc::Global;
 
 /// The number of binders between a bound name and its own.
@@ -98,9 +98,7 @@ fn add<S: TermStore>(
 /// The condition is that each bound name has its binder. It takes time linear in the nodes of the term.
 pub fn to_store<S: TermStore>(alloc: Global, store: &mut S, t: &Term) -> Result<Id, Memory>
     requires { IsWhole 0 (nameless [] t.now) }
-    ensures kept { Extends (S.nodes store.old) (S.nodes store.new) }
-    ensures made { IfOk result (λ r. r < length (S.nodes store.new)) }
-    ensures is { IfOk result (λ r. tree_at (S.nodes store.new) r ≡ nameless [] t.now) }
+    ensures { Builds (S.nodes store.old) (S.nodes store.new) result (nameless [] t.now) }
 {
     let nodes = t.nodes();
     let binders = binders(alloc, t)?;

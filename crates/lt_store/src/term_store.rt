@@ -6,7 +6,7 @@ ghost use Rattle.lt_store.specs.Trees.{Extends, Makes, IsBelow, node_tree, tree_
 ghost use Rattle.lt_store.specs.Views.{node_of};
 
 use crate::node::{Id, View};
-use lt_types::{Memory, Name, Ty, Tys};
+use lt_hol::{Memory, Name, Ty, Tys};
 use std::alloc::Global;
 
 /// A store of terms, which are told by their ids.
@@ -14,7 +14,7 @@ use std::alloc::Global;
 /// An id stands for a term without binder names, which is one form of all alpha-equal terms.
 /// What an id stands for never changes. Each `mk_*` answers an id of what it was given, or want of memory;
 /// the nodes that were there stay either way.
-pub trait TermStore {
+pub trait TermStore: Drop {
     /// The nodes, each behind its children; the place of a node is its id.
     ghost nodes: { Self → List Node };
 

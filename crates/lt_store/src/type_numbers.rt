@@ -7,8 +7,7 @@ ghost use Rattle.lt_hol.specs.Outcomes.{IsOutcome};
 ghost use Rattle.lt_hol.specs.TypeTables.{type_at, Extends};
 ghost use Rattle.lt_store.specs.TypeNumbers.{GivesType, Enters};
 
-use lt_hol::{Outcome, Signature, TypeFault, TypeTable, applied_types};
-use lt_types::{Name, Ty, Tys};
+use lt_hol::{Name, Outcome, Signature, Ty, TypeFault, TypeTable, Tys, applied_types};
 use std::alloc::Global;
 
 /// The number of a type where it is known, else what is wrong.
@@ -28,7 +27,7 @@ fn number_of(alloc: Global, types: &TypeTable, outcome: Outcome) -> Result<usize
 }
 
 /// The number of a type without fault.
-pub fn checked(
+pub(crate) fn checked(
     alloc: Global,
     sig: &Signature,
     types: &mut TypeTable,
@@ -42,7 +41,7 @@ pub fn checked(
 }
 
 /// The number of a constant's type.
-pub fn constant_number(
+pub(crate) fn constant_number(
     alloc: Global,
     sig: &Signature,
     types: &mut TypeTable,
@@ -57,7 +56,12 @@ pub fn constant_number(
 }
 
 /// The number of the type of an application.
-pub fn applied(alloc: Global, types: &TypeTable, f: usize, a: usize) -> Result<usize, TypeFault>
+pub(crate) fn applied(
+    alloc: Global,
+    types: &TypeTable,
+    f: usize,
+    a: usize,
+) -> Result<usize, TypeFault>
     requires f { f < length types.now }
     requires a { a < length types.now }
     ensures { GivesType types.now (applied_type (type_at types.now f) (type_at types.now a)) result }
@@ -66,7 +70,7 @@ pub fn applied(alloc: Global, types: &TypeTable, f: usize, a: usize) -> Result<u
 }
 
 /// The number of the type of a bound name's binder.
-pub fn binder_number(binders: &Vec<usize>, index: usize) -> usize
+pub(crate) fn binder_number(binders: &Vec<usize>, index: usize) -> usize
     requires { index < length binders.now.items }
     ensures { slice_get (reverse binders.now.items) index ≡ Some result }
 {
@@ -74,7 +78,7 @@ pub fn binder_number(binders: &Vec<usize>, index: usize) -> usize
 }
 
 /// Enters a binder of a type without fault. It answers the number that tells the types of the binders then.
-pub fn enter(
+pub(crate) fn enter(
     alloc: Global,
     sig: &Signature,
     types: &mut TypeTable,

@@ -8,8 +8,7 @@ use crate::memo::{Memo, keep, kept, look};
 use crate::node::{Id, View};
 use crate::term_store::TermStore;
 use crate::type_numbers::{applied, binder_number, checked, constant_number, enter};
-use lt_hol::{Signature, TypeFault, TypeTable};
-use lt_types::Memory;
+use lt_hol::{Memory, Signature, TypeFault, TypeTable};
 use std::alloc::Global;
 
 /// What is still to be done. A context is the number of the one type that tells the types of the binders around a term.
@@ -168,7 +167,7 @@ impl TypeWork {
     }
 
     /// Does one task.
-    pub fn turn<S: TermStore>(
+    pub(crate) fn turn<S: TermStore>(
         &mut self,
         alloc: Global,
         store: &S,

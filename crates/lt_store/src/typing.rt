@@ -9,8 +9,7 @@ use crate::memo::kept;
 use crate::node::Id;
 use crate::term_store::TermStore;
 use crate::type_work::{TypeTask, TypeWork};
-use lt_hol::{Signature, TypeFault, TypeTable};
-use lt_types::Ty;
+use lt_hol::{Signature, Ty, TypeFault, TypeTable};
 use std::alloc::Global;
 use std::collections::HashMap;
 

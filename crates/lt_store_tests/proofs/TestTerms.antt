@@ -1,22 +1,26 @@
--- What tests know of their terms.
-use Rattle.std.proofs.Common.{◌≡◌, ℕ, ◌<◌, List, [], length, Ok, sym, subst}
+-- A term that was typed, in a store.
+use Rattle.std.proofs.Common.{◌≡◌, ℕ, ◌<◌, List, [], length, Ok, ap, sym, ◌∙◌}
 use Rattle.lt_definitions.specs.Types.{TypeTree}
 use Rattle.lt_definitions.specs.Terms.{TermTree}
 use Rattle.lt_definitions.specs.Typing.{Signature, typed}
-use Rattle.lt_nameless.specs.Nameless.{Nameless, nameless, IsWhole}
+use Rattle.lt_nameless.specs.Nameless.{nameless, IsWhole}
+use Rattle.lt_nameless.specs.NamelessRules.{nameless_fault}
 use Rattle.lt_nameless.proofs.Typings.{typed-has}
 use Rattle.lt_nameless.proofs.ClosedForms.{typed_is_whole}
+use Rattle.lt_nameless.proofs.NamelessTyping.{typed-nameless}
+use Rattle.lt_definitions.specs.Derivations.{fault_of}
 use Rattle.lt_store.specs.declared.node.Node.{Node}
-use Rattle.lt_store.specs.Trees.{tree_at, Extends}
-use Rattle.lt_store.proofs.Trees.{tree_at-extends}
+use Rattle.lt_store.specs.Trees.{tree_at}
+use Rattle.lt_store.specs.Typed.{IsTyped}
 
 -- a typed term is whole
 pub whole_typed : (sig : Signature) (t : TermTree) (ty : TypeTree) → typed sig [] t ≡ Ok ty → IsWhole 0 (nameless [] t)
 whole_typed sig t ty e = typed_is_whole sig t ty (typed-has sig [] t ty e)
 
-pub whole_as : (depth : ℕ) (s t : Nameless) → s ≡ t → IsWhole depth t → IsWhole depth s
-whole_as depth s t e h = subst (IsWhole depth) (sym e) h
-
--- an id stays whole as its store grows
-pub whole_on : (old new : List Node) (i : ℕ) → Extends old new → i < length old → IsWhole 0 (tree_at old i) → IsWhole 0 (tree_at new i)
-whole_on old new i e h w = whole_as 0 _ _ (tree_at-extends old new i e h) w
+-- so is the id that stands for it
+pub typed_there : (sig : Signature) (ns : List Node) (id : ℕ) (t : TermTree) (ty : TypeTree) → typed sig [] t ≡ Ok ty
+    → id < length ns → tree_at ns id ≡ nameless [] t → IsTyped sig ns id
+typed_there sig ns id t ty e h is = record {
+  within = h;
+  typed = ap (nameless_fault sig) is ∙ ap fault_of (sym (typed-nameless sig [] t) ∙ e);
+}

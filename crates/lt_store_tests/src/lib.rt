@@ -1,6 +1,12 @@
-//! Tests of the calls of lt_store over the plain store, with values from outside.
+//! Tests of lt_store and lt_formulas over the plain store: each call once.
 #![tactic(auto)]
 
+#[cfg(test)]
+mod formulas;
+#[cfg(test)]
+mod making;
+#[cfg(test)]
+mod passes;
 #[cfg(test)]
 mod stores;
 #[cfg(test)]

@@ -1,6 +1,6 @@
 use Rattle.std.proofs.Common.{◌≡◌, ◌∙◌, ap, subst, List, ℕ, IfOk}
 use Rattle.std.specs.Str.{chars}
-use Rattle.lt_types.specs.Lexical.{is_name}
+use Rattle.lt_definitions.specs.Characters.{is_name}
 use Rattle.lt_store.proofs.BinderNames.{binder-word, binder-chars}
 use Rattle.lt_store.proofs.naming.binder_name.Goals as goal
 

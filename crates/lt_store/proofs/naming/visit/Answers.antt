@@ -1,4 +1,4 @@
-use Rattle.lt_store.proofs.NameTasks.{bound_turn, abstraction_turn}
+use Rattle.lt_store.proofs.NameTaskLemmas.{bound_turn, abstraction_turn}
 use Rattle.lt_store.proofs.naming.visit.Goals as goal
 
 pub returns-in_ok-builder-in-Bound-clause-turns : goal.returns-in_ok-builder-in-Bound-clause-turns

@@ -3,9 +3,9 @@ use Rattle.std.proofs.lemmas.Grind.{common_steps}
 use Rattle.lt_store.specs.Memos.{result_at}
 use Rattle.lt_store.specs.Passes.{step_of}
 use Rattle.lt_store.specs.declared.pass.Task.TheVariants.{Visit}
-use Rattle.lt_store.proofs.Trees.{extends_on, extends_same}
+use Rattle.lt_store.proofs.TreeLemmas.{extends_on, extends_same}
 use Rattle.lt_store.proofs.Images.{sound-extends, sound_keep, WorkIsIn-wider}
-use Rattle.lt_store.proofs.Tasks.{underway_first, underway_last, visit_turn, skip_turn, finish_turn, finish_ready, inside}
+use Rattle.lt_store.proofs.TaskLemmas.{underway_first, underway_last, visit_turn, skip_turn, finish_turn, finish_ready, inside}
 use Rattle.lt_store.proofs.pass.run.Goals as goal
 
 pub loop-task-init : goal.loop-task-init

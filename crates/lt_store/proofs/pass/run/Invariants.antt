@@ -1,6 +1,6 @@
 use Rattle.lt_store.specs.Trees.{Extends}
 use Rattle.lt_store.specs.Passes.{IsSound, step_of}
-use Rattle.lt_store.proofs.Tasks.{IsUnderway, total_weight}
+use Rattle.lt_store.proofs.TaskLemmas.{IsUnderway, total_weight}
 use Rattle.lt_store.proofs.pass.run.Given as goal
 
 abbrev pub invariant-loop-task : goal.invariant-loop-task

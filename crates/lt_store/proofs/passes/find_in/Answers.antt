@@ -1,5 +1,5 @@
 use Rattle.std.proofs.Common.{sym, ◌∙◌}
-use Rattle.lt_store.proofs.Trees.{extends_on}
+use Rattle.lt_store.proofs.TreeLemmas.{extends_on}
 use Rattle.lt_store.proofs.Lists.{yes_more, no_more}
 use Rattle.lt_store.proofs.passes.find_in.Goals as goal
 

@@ -1,6 +1,6 @@
 use Rattle.std.proofs.Common.{◌∙◌, ap, nat_eq}
 use Rattle.lt_nameless.specs.NamelessRules.{has_index}
-use Rattle.lt_store.proofs.Trees.{tree_at-extends}
+use Rattle.lt_store.proofs.TreeLemmas.{tree_at-extends}
 use Rattle.lt_store.proofs.Images.{number_test}
 use Rattle.lt_store.proofs.passes.has_loose.Goals as goal
 

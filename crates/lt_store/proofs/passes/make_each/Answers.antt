@@ -1,4 +1,4 @@
-use Rattle.lt_store.proofs.Trees.{extends_on}
+use Rattle.lt_store.proofs.TreeLemmas.{extends_on}
 use Rattle.lt_store.proofs.Lists.{each_more, AllBelow-push, AllBelow-wider}
 use Rattle.lt_store.proofs.passes.make_each.Goals as goal
 

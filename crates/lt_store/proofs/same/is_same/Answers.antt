@@ -2,8 +2,8 @@ use Rattle.std.proofs.Common.{◌≡◌, ◌<◌, length, arith, rules, refl, []
 use Rattle.std.proofs.lemmas.Bool.{false≢true}
 use Rattle.std.proofs.lemmas.Grind.{common_steps}
 use Rattle.lt_store.specs.Memos.{result_at}
-use Rattle.lt_store.proofs.Trees.{node_read}
-use Rattle.lt_store.proofs.Memos.{empty_memo}
+use Rattle.lt_store.proofs.TreeLemmas.{node_read}
+use Rattle.lt_store.proofs.MemoLemmas.{empty_memo}
 use Rattle.lt_store.proofs.Comparisons.{compared_first, compared_last, pair_in, passed_over, passed_smaller, pair_differs, goes_on}
 use Rattle.lt_store.proofs.same.is_same.Goals as goal
 

@@ -1,8 +1,9 @@
-use Rattle.std.proofs.Common.{◌≡◌, [], ℕ, List, sym, subst, refl, length}
+use Rattle.std.proofs.Common.{◌≡◌, [], ℕ, List, sym, subst, refl, length, arith}
+use Rattle.std.proofs.lemmas.Grind.{common_steps}
 use Rattle.lt_nameless.specs.Nameless.{nameless}
 use Rattle.lt_store.specs.Trees.{AllBelow}
 use Rattle.lt_store.specs.Stacks.{stack}
-use Rattle.lt_store.proofs.Trees.{extends_same}
+use Rattle.lt_store.proofs.TreeLemmas.{extends_same}
 use Rattle.lt_store.proofs.Lists.{AllBelow-none}
 use Rattle.lt_store.proofs.StoredTerms.{Remains, remains_first, AllBelow-front}
 use Rattle.lt_store.proofs.storing.to_store.Goals as goal
@@ -18,5 +19,9 @@ loop-at-init g c =
           (remains_first _ c.args.t.now _ _ c.nodes-nodes.ensures c.in_ok-binders.ensures c.requires refl);
     }
 
-pub returns-clause-made : goal.returns-clause-made
-returns-clause-made g c = (AllBelow-front _ _ _ _ c.take_last.ensures c.loop-at.invariant.below).1
+pub returns : goal.returns
+returns g c = record {
+  kept = c.loop-at.invariant.kept;
+  made = (AllBelow-front _ _ _ _ c.take_last.ensures c.loop-at.invariant.below).1;
+  is = grind (arith, common_steps);
+}

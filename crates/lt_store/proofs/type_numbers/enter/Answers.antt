@@ -1,7 +1,7 @@
 use Rattle.std.proofs.Common.{◌∙◌, ap, subst, reverse, ◌∷◌, []}
 use Rattle.std.proofs.lemmas.List.{reverse-append}
 use Rattle.lt_store.specs.TypeNumbers.{Has}
-use Rattle.lt_store.proofs.TypeNumbers.{extends-within, has-on, has-fun, unless-right}
+use Rattle.lt_store.proofs.TypeNumberLemmas.{extends-within, has-on, has-fun, unless-right}
 use Rattle.lt_store.proofs.type_numbers.enter.Goals as goal
 
 pub fun-requires-clause-to : goal.fun-requires-clause-to

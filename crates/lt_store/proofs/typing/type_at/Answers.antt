@@ -3,9 +3,9 @@ use Rattle.std.proofs.lemmas.Grind.{common_steps}
 use Rattle.std.proofs.lemmas.List.{reverse-append}
 use Rattle.lt_store.specs.declared.type_work.TypeTask.TheVariants.{Visit}
 use Rattle.lt_store.specs.TypeTasks.{weights}
-use Rattle.lt_store.proofs.Memos.{empty_memo}
-use Rattle.lt_store.proofs.TypeNumbers.{has-at, has-within}
-use Rattle.lt_store.proofs.TypeTasks.{typing-as, typing_first, typing_found}
+use Rattle.lt_store.proofs.MemoLemmas.{empty_memo}
+use Rattle.lt_store.proofs.TypeNumberLemmas.{has-at, has-within}
+use Rattle.lt_store.proofs.TypeTaskLemmas.{typing-as, typing_first, typing_found}
 use Rattle.lt_store.proofs.typing.type_at.Goals as goal
 
 pub loop-task-init : goal.loop-task-init

@@ -2,7 +2,7 @@ use Rattle.std.proofs.Common.{◌≡◌, slice_get, Some, arith}
 use Rattle.std.proofs.lemmas.Grind.{common_steps}
 use Rattle.std.proofs.lemmas.Option.{gets}
 use Rattle.lt_store.specs.Views.{node_of}
-use Rattle.lt_store.proofs.Trees.{stands_at}
+use Rattle.lt_store.proofs.TreeLemmas.{stands_at}
 use Rattle.lt_store.proofs.plain_store.PlainStoreTermStore.view.Goals as goal
 
 pub returns-clause-stands : goal.returns-clause-stands

@@ -1,6 +1,6 @@
 use Rattle.std.proofs.Common.{arith}
-use Rattle.lt_store.proofs.TypeNumbers.{has-within}
-use Rattle.lt_store.proofs.TypeTasks.{function_type, argument_type, apply_wrong, apply_found}
+use Rattle.lt_store.proofs.TypeNumberLemmas.{has-within}
+use Rattle.lt_store.proofs.TypeTaskLemmas.{function_type, argument_type, apply_wrong, apply_found}
 use Rattle.lt_store.proofs.type_work.TypeWork.apply.Goals as goal
 
 pub applied-requires-clause-f : goal.applied-requires-clause-f

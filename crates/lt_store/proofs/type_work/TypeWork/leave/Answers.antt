@@ -1,7 +1,7 @@
 use Rattle.std.proofs.Common.{◌∷◌, [], ◌∙◌, ap, arith, reverse}
 use Rattle.std.proofs.lemmas.List.{reverse-append}
-use Rattle.lt_store.proofs.TypeNumbers.{has-within}
-use Rattle.lt_store.proofs.TypeTasks.{leave_some, body_type, leave_found}
+use Rattle.lt_store.proofs.TypeNumberLemmas.{has-within}
+use Rattle.lt_store.proofs.TypeTaskLemmas.{leave_some, body_type, leave_found}
 use Rattle.lt_store.proofs.type_work.TypeWork.leave.Goals as goal
 
 pub fun-requires-clause-from : goal.fun-requires-clause-from

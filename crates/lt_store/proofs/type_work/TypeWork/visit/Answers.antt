@@ -3,7 +3,7 @@ use Rattle.std.proofs.lemmas.List.{length-reverse}
 use Rattle.std.proofs.lemmas.Grind.{common_steps}
 use Rattle.lt_nameless.specs.NamelessRules.{nameless_typed}
 use Rattle.lt_store.specs.Memos.{result_at}
-use Rattle.lt_store.proofs.TypeTasks.{skipped, typing-as, visit_found, visit_wide, visit_index, visit_bound, visit_application, visit_abstraction, lighter_visit, lighter_application, lighter_abstraction}
+use Rattle.lt_store.proofs.TypeTaskLemmas.{skipped, typing-as, visit_found, visit_wide, visit_index, visit_bound, visit_application, visit_abstraction, lighter_visit, lighter_application, lighter_abstraction}
 use Rattle.lt_store.proofs.type_work.TypeWork.visit.Goals as goal
 
 pub returns-then-is_some : goal.returns-then-is_some

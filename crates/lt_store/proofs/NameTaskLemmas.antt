@@ -9,7 +9,7 @@ use Rattle.lt_store.specs.declared.naming.NameTask.{NameTask}
 use Rattle.lt_store.specs.declared.naming.NameTask.TheVariants.{Visit, Join, Cover}
 use Rattle.lt_store.specs.Trees.{tree_at, tree_size}
 use Rattle.lt_store.specs.NameTasks.{binder_name, binder_names, Leaves, Turns, weights}
-use Rattle.lt_store.proofs.Trees.{tree_size-positive}
+use Rattle.lt_store.proofs.TreeLemmas.{tree_size-positive}
 use Rattle.lt_store.proofs.BinderNames.{binder-found}
 
 -- more names do no harm

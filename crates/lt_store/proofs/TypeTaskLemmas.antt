@@ -14,9 +14,9 @@ use Rattle.lt_store.specs.Memos.{Memo, result_at, IsKept}
 use Rattle.lt_store.specs.TypeNumbers.{Has, GivesType, AreTypes, context_type}
 use Rattle.lt_hol.specs.TypeTables.{type_at, Extends}
 use Rattle.lt_store.specs.TypeTasks.{IsPlace, IsFound, AllFound, IsDue, IsEntered, outer, AreDue, fault_at, faults, IsTyping, weights}
-use Rattle.lt_store.proofs.Trees.{tree_size-positive}
-use Rattle.lt_store.proofs.Memos.{Keeps, keeps_more, keeps_own, kept_back, result_of}
-use Rattle.lt_store.proofs.TypeNumbers.{has-one, has-at, has-fun, has-on, has-within, extends_same, context-inj, types-on, types-length, types-at, finds-first, finds-unless}
+use Rattle.lt_store.proofs.TreeLemmas.{tree_size-positive}
+use Rattle.lt_store.proofs.MemoLemmas.{Keeps, keeps_more, keeps_own, kept_back, result_of}
+use Rattle.lt_store.proofs.TypeNumberLemmas.{has-one, has-at, has-fun, has-on, has-within, extends_same, context-inj, types-on, types-length, types-at, finds-first, finds-unless}
 
 -- faults of a whole and of its parts
 

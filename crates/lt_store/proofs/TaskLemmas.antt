@@ -10,8 +10,8 @@ use Rattle.lt_store.specs.Trees.{tree_at, node_tree, tree_size, IsBelow, Extends
 use Rattle.lt_store.specs.Memos.{Memo, IsKept, AllKept}
 use Rattle.lt_store.specs.Passes.{children}
 use Rattle.lt_store.specs.Tasks.{visits}
-use Rattle.lt_store.proofs.Trees.{node_back, stands_back, tree_size-positive}
-use Rattle.lt_store.proofs.Memos.{Keeps, keeps_more, keeps_own}
+use Rattle.lt_store.proofs.TreeLemmas.{node_back, stands_back, tree_size-positive}
+use Rattle.lt_store.proofs.MemoLemmas.{Keeps, keeps_more, keeps_own}
 
 -- the id and the depth of a task
 abbrev pub target : Task → ℕ × ℕ
