@@ -1,5 +1,5 @@
 //! The rule on equal functions applied to equal arguments: `cong`.
-ghost use Rattle.std.specs.Prelude.{◌≡◌, length};
+ghost use Rattle.std.specs.Prelude.{length};
 ghost use Rattle.lt_nameless.specs.NamelessRules.{nameless_cong_gives};
 ghost use Rattle.lt_store.specs.Trees.{Extends};
 ghost use Rattle.lt_kernel.specs.Sequents.{sequents_at, AreWithin, Gives};

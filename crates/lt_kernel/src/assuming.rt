@@ -1,6 +1,7 @@
 //! The rules that bring in a statement: `assume`, `weaken` and `thm`.
-ghost use Rattle.std.specs.Prelude.{◌≡◌, ◌<◌, length, None};
-ghost use Rattle.lt_nameless.specs.NamelessRules.{nameless_fault, nameless_assume_gives, nameless_weaken_gives, nameless_thm_gives};
+ghost use Rattle.std.specs.Prelude.{◌<◌, length};
+ghost use Rattle.lt_nameless.specs.NamelessRules.{nameless_assume_gives, nameless_weaken_gives, nameless_thm_gives};
+ghost use Rattle.lt_store.specs.Typed.{IsTyped};
 ghost use Rattle.lt_store.specs.Trees.{tree_at};
 ghost use Rattle.lt_kernel.specs.Sequents.{sequents_at, statements_at, AreWithin, NamedWithin, Gives};
 
@@ -20,8 +21,7 @@ pub(crate) fn assume<S: TermStore>(
     sig: &Signature,
     p: Id,
 ) -> Result<Sequent, RuleFault>
-    requires p { p < length (S.nodes store.now) }
-    requires typed { nameless_fault sig.now (tree_at (S.nodes store.now) p) ≡ None }
+    requires { IsTyped sig.now (S.nodes store.now) p }
     ensures step { Gives (S.nodes store.now) result (nameless_assume_gives sig.now (tree_at (S.nodes store.now) p)) }
 {
     check_boolean(alloc, store, sig, p)?;
@@ -40,8 +40,7 @@ pub(crate) fn weaken<S: TermStore>(
     i: usize,
 ) -> Result<Sequent, RuleFault>
     requires done { AreWithin (length (S.nodes store.now)) done.now }
-    requires p { p < length (S.nodes store.now) }
-    requires typed { nameless_fault sig.now (tree_at (S.nodes store.now) p) ≡ None }
+    requires p { IsTyped sig.now (S.nodes store.now) p }
     ensures step { Gives (S.nodes store.now) result (nameless_weaken_gives sig.now (sequents_at (S.nodes store.now) done.now) (tree_at (S.nodes store.now) p) i) }
 {
     let from = line_at(store, done, i)?;

@@ -1,6 +1,7 @@
 //! The rules on abstractions: `abs`, `beta` and `eta`.
-ghost use Rattle.std.specs.Prelude.{◌≡◌, ◌<◌, length, None};
-ghost use Rattle.lt_nameless.specs.NamelessRules.{nameless_fault, nameless_abs_gives, nameless_beta_gives, nameless_eta_gives};
+ghost use Rattle.std.specs.Prelude.{◌<◌, length};
+ghost use Rattle.lt_nameless.specs.NamelessRules.{nameless_abs_gives, nameless_beta_gives, nameless_eta_gives};
+ghost use Rattle.lt_store.specs.Typed.{IsTyped};
 ghost use Rattle.lt_store.specs.Trees.{tree_at, Extends};
 ghost use Rattle.lt_kernel.specs.Sequents.{sequents_at, AreWithin, Gives};
 
@@ -41,8 +42,7 @@ pub(crate) fn beta<S: TermStore>(
     sig: &Signature,
     t: Id,
 ) -> Result<Sequent, RuleFault>
-    requires t { t < length (S.nodes store.old) }
-    requires typed { nameless_fault sig.now (tree_at (S.nodes store.old) t) ≡ None }
+    requires { IsTyped sig.now (S.nodes store.old) t }
     ensures kept { Extends (S.nodes store.old) (S.nodes store.new) }
     ensures step { Gives (S.nodes store.new) result (nameless_beta_gives sig.now (tree_at (S.nodes store.old) t)) }
 {
@@ -62,8 +62,7 @@ pub(crate) fn eta<S: TermStore>(
     sig: &Signature,
     t: Id,
 ) -> Result<Sequent, RuleFault>
-    requires t { t < length (S.nodes store.old) }
-    requires typed { nameless_fault sig.now (tree_at (S.nodes store.old) t) ≡ None }
+    requires { IsTyped sig.now (S.nodes store.old) t }
     ensures kept { Extends (S.nodes store.old) (S.nodes store.new) }
     ensures step { Gives (S.nodes store.new) result (nameless_eta_gives sig.now (tree_at (S.nodes store.old) t)) }
 {

@@ -1,10 +1,11 @@
 //! A call for each rule of the kernel: `apply` of its line.
 //!
 //! Each names its reasons in their order. A rule with two lines looks for the first one first.
-ghost use Rattle.std.specs.Prelude.{◌≡◌, ◌<◌, length, None};
+ghost use Rattle.std.specs.Prelude.{◌≡◌, ◌<◌, None};
 ghost use Rattle.lt_definitions.specs.Typing.{type_fault};
-ghost use Rattle.lt_nameless.specs.NamelessRules.{nameless_fault, nameless_assume_gives, nameless_weaken_gives, nameless_refl_gives, nameless_sym_gives, nameless_trans_gives, nameless_cong_gives, nameless_abs_gives, nameless_beta_gives, nameless_eta_gives, nameless_eqmp_gives, nameless_impI_gives, nameless_mp_gives, nameless_allI_gives, nameless_allE_gives, nameless_iff_gives, nameless_inst_gives, nameless_tinst_gives, nameless_select_gives, nameless_ccontr_gives, nameless_thm_gives};
+ghost use Rattle.lt_nameless.specs.NamelessRules.{nameless_assume_gives, nameless_weaken_gives, nameless_refl_gives, nameless_sym_gives, nameless_trans_gives, nameless_cong_gives, nameless_abs_gives, nameless_beta_gives, nameless_eta_gives, nameless_eqmp_gives, nameless_impI_gives, nameless_mp_gives, nameless_allI_gives, nameless_allE_gives, nameless_iff_gives, nameless_inst_gives, nameless_tinst_gives, nameless_select_gives, nameless_ccontr_gives, nameless_thm_gives};
 ghost use Rattle.lt_hol.specs.declared.line.Line.TheVariants as line;
+ghost use Rattle.lt_store.specs.Typed.{IsTyped};
 ghost use Rattle.lt_store.specs.Trees.{tree_at};
 ghost use Rattle.lt_kernel.specs.State.{sequents, statements, Answers};
 ghost use Rattle.lt_kernel.specs.Growing.{Carries};
@@ -16,11 +17,10 @@ use lt_hol::{Line, Name, Ty};
 use lt_store::{Id, TermStore};
 use std::alloc::Global;
 
-impl<S: TermStore + Drop> Proof<S> {
+impl<S: TermStore> Proof<S> {
     /// `p |- p`. `NotBool`.
     pub fn assume(&mut self, alloc: Global, p: Id) -> Result<usize, RuleFault>
-        requires p { p < length self.old.nodes }
-        requires typed { nameless_fault self.old.signature (tree_at self.old.nodes p) ≡ None }
+        requires { IsTyped self.old.signature self.old.nodes p }
         ensures answers { Answers self.old self.new (line.Assume p) result (nameless_assume_gives self.old.signature (tree_at self.old.nodes p)) }
         ensures reaches { Reaches self.new result (nameless_assume_gives self.old.signature (tree_at self.old.nodes p)) }
         ensures carries { Carries self.old self.new }
@@ -30,8 +30,7 @@ impl<S: TermStore + Drop> Proof<S> {
 
     /// From `H |- q`: `H, p |- q`. `MissingLine`, `NotBool`.
     pub fn weaken(&mut self, alloc: Global, p: Id, i: usize) -> Result<usize, RuleFault>
-        requires p { p < length self.old.nodes }
-        requires typed { nameless_fault self.old.signature (tree_at self.old.nodes p) ≡ None }
+        requires { IsTyped self.old.signature self.old.nodes p }
         ensures answers { Answers self.old self.new (line.Weaken p i) result (nameless_weaken_gives self.old.signature (sequents self.old) (tree_at self.old.nodes p) i) }
         ensures reaches { Reaches self.new result (nameless_weaken_gives self.old.signature (sequents self.old) (tree_at self.old.nodes p) i) }
         ensures carries { Carries self.old self.new }
@@ -41,8 +40,7 @@ impl<S: TermStore + Drop> Proof<S> {
 
     /// `|- t = t`.
     pub fn refl(&mut self, alloc: Global, t: Id) -> Result<usize, RuleFault>
-        requires t { t < length self.old.nodes }
-        requires typed { nameless_fault self.old.signature (tree_at self.old.nodes t) ≡ None }
+        requires { IsTyped self.old.signature self.old.nodes t }
         ensures answers { Answers self.old self.new (line.Refl t) result (nameless_refl_gives self.old.signature (tree_at self.old.nodes t)) }
         ensures reaches { Reaches self.new result (nameless_refl_gives self.old.signature (tree_at self.old.nodes t)) }
         ensures carries { Carries self.old self.new }
@@ -89,8 +87,7 @@ impl<S: TermStore + Drop> Proof<S> {
 
     /// `|- t = b`, the body of a redex opened. `NotRedex`.
     pub fn beta(&mut self, alloc: Global, t: Id) -> Result<usize, RuleFault>
-        requires t { t < length self.old.nodes }
-        requires typed { nameless_fault self.old.signature (tree_at self.old.nodes t) ≡ None }
+        requires { IsTyped self.old.signature self.old.nodes t }
         ensures answers { Answers self.old self.new (line.Beta t) result (nameless_beta_gives self.old.signature (tree_at self.old.nodes t)) }
         ensures reaches { Reaches self.new result (nameless_beta_gives self.old.signature (tree_at self.old.nodes t)) }
         ensures carries { Carries self.old self.new }
@@ -100,8 +97,7 @@ impl<S: TermStore + Drop> Proof<S> {
 
     /// `|- t = f`, where `t` is `\x. f x`. `NotRedex`.
     pub fn eta(&mut self, alloc: Global, t: Id) -> Result<usize, RuleFault>
-        requires t { t < length self.old.nodes }
-        requires typed { nameless_fault self.old.signature (tree_at self.old.nodes t) ≡ None }
+        requires { IsTyped self.old.signature self.old.nodes t }
         ensures answers { Answers self.old self.new (line.Eta t) result (nameless_eta_gives self.old.signature (tree_at self.old.nodes t)) }
         ensures reaches { Reaches self.new result (nameless_eta_gives self.old.signature (tree_at self.old.nodes t)) }
         ensures carries { Carries self.old self.new }
@@ -120,8 +116,7 @@ impl<S: TermStore + Drop> Proof<S> {
 
     /// From `H |- q`: `H` without `p |- p --> q`. `MissingLine`, `NotBool`.
     pub fn impI(&mut self, alloc: Global, p: Id, i: usize) -> Result<usize, RuleFault>
-        requires p { p < length self.old.nodes }
-        requires typed { nameless_fault self.old.signature (tree_at self.old.nodes p) ≡ None }
+        requires { IsTyped self.old.signature self.old.nodes p }
         ensures answers { Answers self.old self.new (line.ImpI p i) result (nameless_impI_gives self.old.signature (sequents self.old) (tree_at self.old.nodes p) i) }
         ensures reaches { Reaches self.new result (nameless_impI_gives self.old.signature (sequents self.old) (tree_at self.old.nodes p) i) }
         ensures carries { Carries self.old self.new }
@@ -150,8 +145,7 @@ impl<S: TermStore + Drop> Proof<S> {
 
     /// From `H |- all p`: `H |- p` opened by `t`, or `p t`. `MissingLine`, `NotForall`, `TypeDiffers`.
     pub fn allE(&mut self, alloc: Global, t: Id, i: usize) -> Result<usize, RuleFault>
-        requires t { t < length self.old.nodes }
-        requires typed { nameless_fault self.old.signature (tree_at self.old.nodes t) ≡ None }
+        requires { IsTyped self.old.signature self.old.nodes t }
         ensures answers { Answers self.old self.new (line.AllE t i) result (nameless_allE_gives self.old.signature (sequents self.old) (tree_at self.old.nodes t) i) }
         ensures reaches { Reaches self.new result (nameless_allE_gives self.old.signature (sequents self.old) (tree_at self.old.nodes t) i) }
         ensures carries { Carries self.old self.new }
@@ -178,8 +172,7 @@ impl<S: TermStore + Drop> Proof<S> {
         i: usize,
     ) -> Result<usize, RuleFault>
         requires ty { type_fault self.old.signature ty ≡ None }
-        requires t { t < length self.old.nodes }
-        requires typed { nameless_fault self.old.signature (tree_at self.old.nodes t) ≡ None }
+        requires t { IsTyped self.old.signature self.old.nodes t }
         ensures answers { Answers self.old self.new (line.Inst x ty t i) result (nameless_inst_gives self.old.signature (sequents self.old) x ty (tree_at self.old.nodes t) i) }
         ensures reaches { Reaches self.new result (nameless_inst_gives self.old.signature (sequents self.old) x ty (tree_at self.old.nodes t) i) }
         ensures carries { Carries self.old self.new }
@@ -199,8 +192,7 @@ impl<S: TermStore + Drop> Proof<S> {
 
     /// `|- all x. p x --> p (eps p)`. `TypeDiffers`.
     pub fn select(&mut self, alloc: Global, p: Id) -> Result<usize, RuleFault>
-        requires p { p < length self.old.nodes }
-        requires typed { nameless_fault self.old.signature (tree_at self.old.nodes p) ≡ None }
+        requires { IsTyped self.old.signature self.old.nodes p }
         ensures answers { Answers self.old self.new (line.Select p) result (nameless_select_gives self.old.signature (tree_at self.old.nodes p)) }
         ensures reaches { Reaches self.new result (nameless_select_gives self.old.signature (tree_at self.old.nodes p)) }
         ensures carries { Carries self.old self.new }
@@ -210,8 +202,7 @@ impl<S: TermStore + Drop> Proof<S> {
 
     /// `|- ((p --> F) --> F) --> p`. `NotBool`.
     pub fn ccontr(&mut self, alloc: Global, p: Id) -> Result<usize, RuleFault>
-        requires p { p < length self.old.nodes }
-        requires typed { nameless_fault self.old.signature (tree_at self.old.nodes p) ≡ None }
+        requires { IsTyped self.old.signature self.old.nodes p }
         ensures answers { Answers self.old self.new (line.Ccontr p) result (nameless_ccontr_gives self.old.signature (tree_at self.old.nodes p)) }
         ensures reaches { Reaches self.new result (nameless_ccontr_gives self.old.signature (tree_at self.old.nodes p)) }
         ensures carries { Carries self.old self.new }

@@ -1,6 +1,7 @@
 //! The axioms of choice and of classical logic: `select` and `ccontr`.
-ghost use Rattle.std.specs.Prelude.{◌≡◌, ◌<◌, length, None};
-ghost use Rattle.lt_nameless.specs.NamelessRules.{nameless_fault, nameless_select_gives, nameless_ccontr_gives};
+ghost use Rattle.std.specs.Prelude.{◌<◌};
+ghost use Rattle.lt_nameless.specs.NamelessRules.{nameless_select_gives, nameless_ccontr_gives};
+ghost use Rattle.lt_store.specs.Typed.{IsTyped};
 ghost use Rattle.lt_store.specs.Trees.{tree_at, Extends};
 ghost use Rattle.lt_kernel.specs.Sequents.{Gives};
 
@@ -19,8 +20,7 @@ pub(crate) fn select<S: TermStore>(
     sig: &Signature,
     p: Id,
 ) -> Result<Sequent, RuleFault>
-    requires p { p < length (S.nodes store.old) }
-    requires typed { nameless_fault sig.now (tree_at (S.nodes store.old) p) ≡ None }
+    requires { IsTyped sig.now (S.nodes store.old) p }
     ensures kept { Extends (S.nodes store.old) (S.nodes store.new) }
     ensures step { Gives (S.nodes store.new) result (nameless_select_gives sig.now (tree_at (S.nodes store.old) p)) }
 {
@@ -39,8 +39,7 @@ pub(crate) fn ccontr<S: TermStore>(
     sig: &Signature,
     p: Id,
 ) -> Result<Sequent, RuleFault>
-    requires p { p < length (S.nodes store.old) }
-    requires typed { nameless_fault sig.now (tree_at (S.nodes store.old) p) ≡ None }
+    requires { IsTyped sig.now (S.nodes store.old) p }
     ensures kept { Extends (S.nodes store.old) (S.nodes store.new) }
     ensures step { Gives (S.nodes store.new) result (nameless_ccontr_gives sig.now (tree_at (S.nodes store.old) p)) }
 {

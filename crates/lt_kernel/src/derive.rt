@@ -1,5 +1,5 @@
 //! What a line's rule gives.
-ghost use Rattle.std.specs.Prelude.{◌≡◌, length};
+ghost use Rattle.std.specs.Prelude.{length};
 ghost use Rattle.lt_nameless.specs.NamelessRules.{nameless_step};
 ghost use Rattle.lt_store.specs.Trees.{Extends};
 ghost use Rattle.lt_kernel.specs.Lines.{rule_at, IsGoodLine};

@@ -1,6 +1,7 @@
 //! The rules on equations: `refl`, `sym`, `trans`, `eqmp` and `iff`.
-ghost use Rattle.std.specs.Prelude.{◌≡◌, ◌<◌, length, None};
-ghost use Rattle.lt_nameless.specs.NamelessRules.{nameless_fault, nameless_refl_gives, nameless_sym_gives, nameless_trans_gives, nameless_eqmp_gives, nameless_iff_gives};
+ghost use Rattle.std.specs.Prelude.{◌<◌, length};
+ghost use Rattle.lt_nameless.specs.NamelessRules.{nameless_refl_gives, nameless_sym_gives, nameless_trans_gives, nameless_eqmp_gives, nameless_iff_gives};
+ghost use Rattle.lt_store.specs.Typed.{IsTyped};
 ghost use Rattle.lt_store.specs.Trees.{tree_at, Extends};
 ghost use Rattle.lt_kernel.specs.Sequents.{sequents_at, AreWithin, Gives};
 
@@ -19,8 +20,7 @@ pub(crate) fn refl<S: TermStore>(
     sig: &Signature,
     t: Id,
 ) -> Result<Sequent, RuleFault>
-    requires t { t < length (S.nodes store.old) }
-    requires typed { nameless_fault sig.now (tree_at (S.nodes store.old) t) ≡ None }
+    requires { IsTyped sig.now (S.nodes store.old) t }
     ensures kept { Extends (S.nodes store.old) (S.nodes store.new) }
     ensures step { Gives (S.nodes store.new) result (nameless_refl_gives sig.now (tree_at (S.nodes store.old) t)) }
 {

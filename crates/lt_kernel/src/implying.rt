@@ -1,6 +1,7 @@
 //! The rules on implications: `impI` and `mp`.
-ghost use Rattle.std.specs.Prelude.{◌≡◌, ◌<◌, length, None};
-ghost use Rattle.lt_nameless.specs.NamelessRules.{nameless_fault, nameless_impI_gives, nameless_mp_gives};
+ghost use Rattle.std.specs.Prelude.{◌<◌, length};
+ghost use Rattle.lt_nameless.specs.NamelessRules.{nameless_impI_gives, nameless_mp_gives};
+ghost use Rattle.lt_store.specs.Typed.{IsTyped};
 ghost use Rattle.lt_store.specs.Trees.{tree_at, Extends};
 ghost use Rattle.lt_kernel.specs.Sequents.{sequents_at, AreWithin, Gives};
 
@@ -22,8 +23,7 @@ pub(crate) fn impI<S: TermStore>(
     i: usize,
 ) -> Result<Sequent, RuleFault>
     requires done { AreWithin (length (S.nodes store.old)) done.now }
-    requires p { p < length (S.nodes store.old) }
-    requires typed { nameless_fault sig.now (tree_at (S.nodes store.old) p) ≡ None }
+    requires p { IsTyped sig.now (S.nodes store.old) p }
     ensures kept { Extends (S.nodes store.old) (S.nodes store.new) }
     ensures step { Gives (S.nodes store.new) result (nameless_impI_gives sig.now (sequents_at (S.nodes store.old) done.now) (tree_at (S.nodes store.old) p) i) }
 {

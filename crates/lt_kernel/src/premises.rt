@@ -1,10 +1,11 @@
 //! What a rule looks for and tests: what is there, or the reason why the rule gives nothing.
-ghost use Rattle.std.specs.Prelude.{◌≡◌, ◌<◌, length, not, None, IfOk};
+ghost use Rattle.std.specs.Prelude.{◌<◌, length, not, None, IfOk};
 ghost use Rattle.std.specs.List.{list_any};
 ghost use Rattle.lt_definitions.specs.Types.{bool};
 ghost use Rattle.lt_definitions.specs.Rules.{line_at};
-ghost use Rattle.lt_nameless.specs.NamelessRules.{nameless_fault, nameless_as_equation, nameless_as_implication, nameless_as_forall, nameless_has_type, nameless_has_free, same_nameless};
+ghost use Rattle.lt_nameless.specs.NamelessRules.{nameless_as_equation, nameless_as_implication, nameless_as_forall, nameless_has_type, nameless_has_free, same_nameless};
 ghost use Rattle.lt_definitions.specs.declared.reason.Reason.TheVariants as reason;
+ghost use Rattle.lt_store.specs.Typed.{IsTyped};
 ghost use Rattle.lt_store.specs.Trees.{tree_at, trees, AllBelow, Extends};
 ghost use Rattle.lt_kernel.specs.Sequents.{sequent_at, sequents_at, AreWithin, IsWithin, Finds, Tests};
 
@@ -97,8 +98,7 @@ pub(crate) fn check_boolean<S: TermStore>(
     sig: &Signature,
     p: Id,
 ) -> Result<(), RuleFault>
-    requires p { p < length (S.nodes store.now) }
-    requires typed { nameless_fault sig.now (tree_at (S.nodes store.now) p) ≡ None }
+    requires { IsTyped sig.now (S.nodes store.now) p }
     ensures { Tests result reason.NotBool (nameless_has_type sig.now (tree_at (S.nodes store.now) p) bool) }
 {
     if !is_boolean(alloc, store, sig, p)? {
@@ -115,8 +115,7 @@ pub(crate) fn check_type<S: TermStore>(
     t: Id,
     ty: &Ty,
 ) -> Result<(), RuleFault>
-    requires t { t < length (S.nodes store.now) }
-    requires typed { nameless_fault sig.now (tree_at (S.nodes store.now) t) ≡ None }
+    requires { IsTyped sig.now (S.nodes store.now) t }
     ensures { Tests result reason.TypeDiffers (nameless_has_type sig.now (tree_at (S.nodes store.now) t) ty.now) }
 {
     if !has_type(alloc, store, sig, t, ty)? {

@@ -5,6 +5,7 @@ ghost use Rattle.lt_definitions.specs.Types.{found};
 ghost use Rattle.lt_definitions.specs.Rules.{line_at};
 ghost use Rattle.lt_nameless.specs.Nameless.{nameless, IsWhole};
 ghost use Rattle.lt_hol.specs.Faults.{DeclaresType, DeclaresConst, cut};
+ghost use Rattle.lt_store.specs.Building.{Builds};
 ghost use Rattle.lt_store.specs.Trees.{tree_at};
 ghost use Rattle.lt_kernel.specs.Lines.{IsGoodLine};
 ghost use Rattle.lt_kernel.specs.Sequents.{IsWithin};
@@ -56,7 +57,7 @@ pub struct ProofMark {
     pub statements: usize,
 }
 
-impl<S: TermStore + Drop> Proof<S> {
+impl<S: TermStore> Proof<S> {
     /// A proof without named statements and lines, over a signature and a store.
     pub fn new(alloc: Global, signature: Signature, store: S) -> Proof<S>
         ensures nodes { result.nodes ≡ S.nodes store }
@@ -168,8 +169,7 @@ impl<S: TermStore + Drop> Proof<S> {
         requires { IsWhole 0 (nameless [] t.now) }
         ensures keeps { Keeps self.old self.new }
         ensures carries { Carries self.old self.new }
-        ensures made { IfOk result (λ r. r < length self.new.nodes) }
-        ensures is { IfOk result (λ r. tree_at self.new.nodes r ≡ nameless [] t.now) }
+        ensures builds { Builds self.old.nodes self.new.nodes result (nameless [] t.now) }
     {
         let id = to_store(alloc, &mut self.store, t)?;
         Ok(id)

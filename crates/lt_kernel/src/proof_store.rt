@@ -10,7 +10,7 @@ use lt_hol::{Memory, Name, Ty, Tys};
 use lt_store::{Id, TermStore, View};
 use std::alloc::Global;
 
-impl<S: TermStore + Drop> TermStore for Proof<S> {
+impl<S: TermStore> TermStore for Proof<S> {
     ghost nodes = { λ p. p.nodes };
 
     fn len(&self) -> usize {

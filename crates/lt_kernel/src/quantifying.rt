@@ -1,6 +1,7 @@
 //! The rules on universal statements: `allI` and `allE`.
-ghost use Rattle.std.specs.Prelude.{◌≡◌, ◌<◌, length, None};
-ghost use Rattle.lt_nameless.specs.NamelessRules.{nameless_fault, nameless_allI_gives, nameless_allE_gives};
+ghost use Rattle.std.specs.Prelude.{◌<◌, length};
+ghost use Rattle.lt_nameless.specs.NamelessRules.{nameless_allI_gives, nameless_allE_gives};
+ghost use Rattle.lt_store.specs.Typed.{IsTyped};
 ghost use Rattle.lt_store.specs.Trees.{tree_at, Extends};
 ghost use Rattle.lt_kernel.specs.Sequents.{sequents_at, AreWithin, Gives};
 
@@ -43,8 +44,7 @@ pub(crate) fn allE<S: TermStore>(
     i: usize,
 ) -> Result<Sequent, RuleFault>
     requires done { AreWithin (length (S.nodes store.old)) done.now }
-    requires t { t < length (S.nodes store.old) }
-    requires typed { nameless_fault sig.now (tree_at (S.nodes store.old) t) ≡ None }
+    requires t { IsTyped sig.now (S.nodes store.old) t }
     ensures kept { Extends (S.nodes store.old) (S.nodes store.new) }
     ensures step { Gives (S.nodes store.new) result (nameless_allE_gives sig.now (sequents_at (S.nodes store.old) done.now) (tree_at (S.nodes store.old) t) i) }
 {

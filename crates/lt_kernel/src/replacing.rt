@@ -1,6 +1,8 @@
 //! The rules that replace variables: `inst` and `tinst`.
-ghost use Rattle.std.specs.Prelude.{◌≡◌, ◌<◌, ◌∷◌, [], length, None, IfOk};
-ghost use Rattle.lt_nameless.specs.NamelessRules.{nameless_fault, nameless_replaced, nameless_inst_gives, nameless_tinst_gives};
+ghost use Rattle.std.specs.Prelude.{◌≡◌, ◌<◌, ◌∷◌, [], length, IfOk};
+ghost use Rattle.lt_nameless.specs.NamelessRules.{nameless_replaced, nameless_inst_gives, nameless_tinst_gives};
+ghost use Rattle.lt_store.specs.Building.{Builds};
+ghost use Rattle.lt_store.specs.Typed.{IsTyped};
 ghost use Rattle.lt_store.specs.Trees.{tree_at, Extends};
 ghost use Rattle.lt_kernel.specs.Sequents.{sequents_at, AreWithin, Gives};
 
@@ -24,8 +26,7 @@ pub(crate) fn inst<S: TermStore>(
     i: usize,
 ) -> Result<Sequent, RuleFault>
     requires done { AreWithin (length (S.nodes store.old)) done.now }
-    requires t { t < length (S.nodes store.old) }
-    requires typed { nameless_fault sig.now (tree_at (S.nodes store.old) t) ≡ None }
+    requires t { IsTyped sig.now (S.nodes store.old) t }
     ensures kept { Extends (S.nodes store.old) (S.nodes store.new) }
     ensures step { Gives (S.nodes store.new) result (nameless_inst_gives sig.now (sequents_at (S.nodes store.old) done.now) x.now ty.now (tree_at (S.nodes store.old) t) i) }
 {
@@ -70,9 +71,7 @@ fn replaced<S: TermStore>(
 ) -> Result<Id, Memory>
     requires t { t < length (S.nodes store.old) }
     requires by { by < length (S.nodes store.old) }
-    ensures kept { Extends (S.nodes store.old) (S.nodes store.new) }
-    ensures made { IfOk result (λ r. r < length (S.nodes store.new)) }
-    ensures is { IfOk result (λ r. tree_at (S.nodes store.new) r ≡ nameless_replaced x.now ty.now (tree_at (S.nodes store.old) by) (tree_at (S.nodes store.old) t)) }
+    ensures { Builds (S.nodes store.old) (S.nodes store.new) result (nameless_replaced x.now ty.now (tree_at (S.nodes store.old) by) (tree_at (S.nodes store.old) t)) }
 {
     let ts = one(alloc, t)?;
     let made = replace_free(alloc, store, ts.as_slice(), x, ty, by)?;

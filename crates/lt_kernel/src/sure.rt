@@ -1,9 +1,10 @@
 //! Rules that are known to give a sequent, so that want of memory is their only refusal.
 //!
 //! A derivation whose rules can't be refused calls these: each of its exits is want of memory then.
-ghost use Rattle.std.specs.Prelude.{◌≡◌, ◌<◌, None, true, is_ok, length, IfOk};
+ghost use Rattle.std.specs.Prelude.{◌≡◌, ◌<◌, None, true, is_ok, IfOk};
 ghost use Rattle.lt_definitions.specs.Typing.{type_fault};
-ghost use Rattle.lt_nameless.specs.NamelessRules.{nameless_fault, nameless_assume_gives, nameless_weaken_gives, nameless_refl_gives, nameless_sym_gives, nameless_trans_gives, nameless_cong_gives, nameless_abs_gives, nameless_beta_gives, nameless_eta_gives, nameless_eqmp_gives, nameless_impI_gives, nameless_mp_gives, nameless_allI_gives, nameless_allE_gives, nameless_iff_gives, nameless_inst_gives, nameless_tinst_gives, nameless_select_gives, nameless_ccontr_gives, nameless_thm_gives};
+ghost use Rattle.lt_nameless.specs.NamelessRules.{nameless_assume_gives, nameless_weaken_gives, nameless_refl_gives, nameless_sym_gives, nameless_trans_gives, nameless_cong_gives, nameless_abs_gives, nameless_beta_gives, nameless_eta_gives, nameless_eqmp_gives, nameless_impI_gives, nameless_mp_gives, nameless_allI_gives, nameless_allE_gives, nameless_iff_gives, nameless_inst_gives, nameless_tinst_gives, nameless_select_gives, nameless_ccontr_gives, nameless_thm_gives};
+ghost use Rattle.lt_store.specs.Typed.{IsTyped};
 ghost use Rattle.lt_store.specs.Trees.{tree_at};
 ghost use Rattle.lt_kernel.specs.State.{sequents, statements};
 ghost use Rattle.lt_kernel.specs.Growing.{Carries};
@@ -15,9 +16,8 @@ use lt_store::{Id, TermStore};
 use std::alloc::Global;
 
 /// `p |- p`.
-pub fn assume<S: TermStore + Drop>(alloc: Global, proof: &mut Proof<S>, p: Id) -> Result<usize, Memory>
-    requires p { p < length proof.old.nodes }
-    requires typed { nameless_fault proof.old.signature (tree_at proof.old.nodes p) ≡ None }
+pub fn assume<S: TermStore>(alloc: Global, proof: &mut Proof<S>, p: Id) -> Result<usize, Memory>
+    requires p { IsTyped proof.old.signature proof.old.nodes p }
     requires sure { is_ok (nameless_assume_gives proof.old.signature (tree_at proof.old.nodes p)) ≡ true }
     ensures carries { Carries proof.old proof.new }
     ensures line { IfOk result (λ n. IsGiven proof.new n (nameless_assume_gives proof.old.signature (tree_at proof.old.nodes p))) }
@@ -29,9 +29,8 @@ pub fn assume<S: TermStore + Drop>(alloc: Global, proof: &mut Proof<S>, p: Id) -
 }
 
 /// From `H |- q`: `H, p |- q`.
-pub fn weaken<S: TermStore + Drop>(alloc: Global, proof: &mut Proof<S>, p: Id, i: usize) -> Result<usize, Memory>
-    requires p { p < length proof.old.nodes }
-    requires typed { nameless_fault proof.old.signature (tree_at proof.old.nodes p) ≡ None }
+pub fn weaken<S: TermStore>(alloc: Global, proof: &mut Proof<S>, p: Id, i: usize) -> Result<usize, Memory>
+    requires p { IsTyped proof.old.signature proof.old.nodes p }
     requires sure { is_ok (nameless_weaken_gives proof.old.signature (sequents proof.old) (tree_at proof.old.nodes p) i) ≡ true }
     ensures carries { Carries proof.old proof.new }
     ensures line { IfOk result (λ n. IsGiven proof.new n (nameless_weaken_gives proof.old.signature (sequents proof.old) (tree_at proof.old.nodes p) i)) }
@@ -43,9 +42,8 @@ pub fn weaken<S: TermStore + Drop>(alloc: Global, proof: &mut Proof<S>, p: Id, i
 }
 
 /// `|- t = t`.
-pub fn refl<S: TermStore + Drop>(alloc: Global, proof: &mut Proof<S>, t: Id) -> Result<usize, Memory>
-    requires t { t < length proof.old.nodes }
-    requires typed { nameless_fault proof.old.signature (tree_at proof.old.nodes t) ≡ None }
+pub fn refl<S: TermStore>(alloc: Global, proof: &mut Proof<S>, t: Id) -> Result<usize, Memory>
+    requires { IsTyped proof.old.signature proof.old.nodes t }
     ensures carries { Carries proof.old proof.new }
     ensures line { IfOk result (λ n. IsGiven proof.new n (nameless_refl_gives proof.old.signature (tree_at proof.old.nodes t))) }
 {
@@ -56,7 +54,7 @@ pub fn refl<S: TermStore + Drop>(alloc: Global, proof: &mut Proof<S>, t: Id) -> 
 }
 
 /// From `H |- s = t`: `H |- t = s`.
-pub fn sym<S: TermStore + Drop>(alloc: Global, proof: &mut Proof<S>, i: usize) -> Result<usize, Memory>
+pub fn sym<S: TermStore>(alloc: Global, proof: &mut Proof<S>, i: usize) -> Result<usize, Memory>
     requires sure { is_ok (nameless_sym_gives (sequents proof.old) i) ≡ true }
     ensures carries { Carries proof.old proof.new }
     ensures line { IfOk result (λ n. IsGiven proof.new n (nameless_sym_gives (sequents proof.old) i)) }
@@ -68,7 +66,7 @@ pub fn sym<S: TermStore + Drop>(alloc: Global, proof: &mut Proof<S>, i: usize) -
 }
 
 /// From `H |- r = s` and `K |- s = t`: `H, K |- r = t`.
-pub fn trans<S: TermStore + Drop>(alloc: Global, proof: &mut Proof<S>, i: usize, j: usize) -> Result<usize, Memory>
+pub fn trans<S: TermStore>(alloc: Global, proof: &mut Proof<S>, i: usize, j: usize) -> Result<usize, Memory>
     requires sure { is_ok (nameless_trans_gives (sequents proof.old) i j) ≡ true }
     ensures carries { Carries proof.old proof.new }
     ensures line { IfOk result (λ n. IsGiven proof.new n (nameless_trans_gives (sequents proof.old) i j)) }
@@ -80,7 +78,7 @@ pub fn trans<S: TermStore + Drop>(alloc: Global, proof: &mut Proof<S>, i: usize,
 }
 
 /// From `H |- f = g` and `K |- a = b`: `H, K |- f a = g b`.
-pub fn cong<S: TermStore + Drop>(alloc: Global, proof: &mut Proof<S>, i: usize, j: usize) -> Result<usize, Memory>
+pub fn cong<S: TermStore>(alloc: Global, proof: &mut Proof<S>, i: usize, j: usize) -> Result<usize, Memory>
     requires sure { is_ok (nameless_cong_gives (sequents proof.old) i j) ≡ true }
     ensures carries { Carries proof.old proof.new }
     ensures line { IfOk result (λ n. IsGiven proof.new n (nameless_cong_gives (sequents proof.old) i j)) }
@@ -92,7 +90,7 @@ pub fn cong<S: TermStore + Drop>(alloc: Global, proof: &mut Proof<S>, i: usize, 
 }
 
 /// From `H |- s = t`: `H |- (\x. s) = (\x. t)`.
-pub fn abs<S: TermStore + Drop>(alloc: Global, proof: &mut Proof<S>, x: &Name, ty: &Ty, i: usize) -> Result<usize, Memory>
+pub fn abs<S: TermStore>(alloc: Global, proof: &mut Proof<S>, x: &Name, ty: &Ty, i: usize) -> Result<usize, Memory>
     requires ty { type_fault proof.old.signature ty.now ≡ None }
     requires sure { is_ok (nameless_abs_gives (sequents proof.old) x.now ty.now i) ≡ true }
     ensures carries { Carries proof.old proof.new }
@@ -107,9 +105,8 @@ pub fn abs<S: TermStore + Drop>(alloc: Global, proof: &mut Proof<S>, x: &Name, t
 }
 
 /// `|- t = b`, the body of a redex opened.
-pub fn beta<S: TermStore + Drop>(alloc: Global, proof: &mut Proof<S>, t: Id) -> Result<usize, Memory>
-    requires t { t < length proof.old.nodes }
-    requires typed { nameless_fault proof.old.signature (tree_at proof.old.nodes t) ≡ None }
+pub fn beta<S: TermStore>(alloc: Global, proof: &mut Proof<S>, t: Id) -> Result<usize, Memory>
+    requires t { IsTyped proof.old.signature proof.old.nodes t }
     requires sure { is_ok (nameless_beta_gives proof.old.signature (tree_at proof.old.nodes t)) ≡ true }
     ensures carries { Carries proof.old proof.new }
     ensures line { IfOk result (λ n. IsGiven proof.new n (nameless_beta_gives proof.old.signature (tree_at proof.old.nodes t))) }
@@ -121,9 +118,8 @@ pub fn beta<S: TermStore + Drop>(alloc: Global, proof: &mut Proof<S>, t: Id) -> 
 }
 
 /// `|- t = f`, where `t` is `\x. f x`.
-pub fn eta<S: TermStore + Drop>(alloc: Global, proof: &mut Proof<S>, t: Id) -> Result<usize, Memory>
-    requires t { t < length proof.old.nodes }
-    requires typed { nameless_fault proof.old.signature (tree_at proof.old.nodes t) ≡ None }
+pub fn eta<S: TermStore>(alloc: Global, proof: &mut Proof<S>, t: Id) -> Result<usize, Memory>
+    requires t { IsTyped proof.old.signature proof.old.nodes t }
     requires sure { is_ok (nameless_eta_gives proof.old.signature (tree_at proof.old.nodes t)) ≡ true }
     ensures carries { Carries proof.old proof.new }
     ensures line { IfOk result (λ n. IsGiven proof.new n (nameless_eta_gives proof.old.signature (tree_at proof.old.nodes t))) }
@@ -135,7 +131,7 @@ pub fn eta<S: TermStore + Drop>(alloc: Global, proof: &mut Proof<S>, t: Id) -> R
 }
 
 /// From `H |- p = q` and `K |- p`: `H, K |- q`.
-pub fn eqmp<S: TermStore + Drop>(alloc: Global, proof: &mut Proof<S>, i: usize, j: usize) -> Result<usize, Memory>
+pub fn eqmp<S: TermStore>(alloc: Global, proof: &mut Proof<S>, i: usize, j: usize) -> Result<usize, Memory>
     requires sure { is_ok (nameless_eqmp_gives (sequents proof.old) i j) ≡ true }
     ensures carries { Carries proof.old proof.new }
     ensures line { IfOk result (λ n. IsGiven proof.new n (nameless_eqmp_gives (sequents proof.old) i j)) }
@@ -147,9 +143,8 @@ pub fn eqmp<S: TermStore + Drop>(alloc: Global, proof: &mut Proof<S>, i: usize, 
 }
 
 /// From `H |- q`: `H` without `p |- p --> q`.
-pub fn impI<S: TermStore + Drop>(alloc: Global, proof: &mut Proof<S>, p: Id, i: usize) -> Result<usize, Memory>
-    requires p { p < length proof.old.nodes }
-    requires typed { nameless_fault proof.old.signature (tree_at proof.old.nodes p) ≡ None }
+pub fn impI<S: TermStore>(alloc: Global, proof: &mut Proof<S>, p: Id, i: usize) -> Result<usize, Memory>
+    requires p { IsTyped proof.old.signature proof.old.nodes p }
     requires sure { is_ok (nameless_impI_gives proof.old.signature (sequents proof.old) (tree_at proof.old.nodes p) i) ≡ true }
     ensures carries { Carries proof.old proof.new }
     ensures line { IfOk result (λ n. IsGiven proof.new n (nameless_impI_gives proof.old.signature (sequents proof.old) (tree_at proof.old.nodes p) i)) }
@@ -161,7 +156,7 @@ pub fn impI<S: TermStore + Drop>(alloc: Global, proof: &mut Proof<S>, p: Id, i: 
 }
 
 /// From `H |- p --> q` and `K |- p`: `H, K |- q`.
-pub fn mp<S: TermStore + Drop>(alloc: Global, proof: &mut Proof<S>, i: usize, j: usize) -> Result<usize, Memory>
+pub fn mp<S: TermStore>(alloc: Global, proof: &mut Proof<S>, i: usize, j: usize) -> Result<usize, Memory>
     requires sure { is_ok (nameless_mp_gives (sequents proof.old) i j) ≡ true }
     ensures carries { Carries proof.old proof.new }
     ensures line { IfOk result (λ n. IsGiven proof.new n (nameless_mp_gives (sequents proof.old) i j)) }
@@ -173,7 +168,7 @@ pub fn mp<S: TermStore + Drop>(alloc: Global, proof: &mut Proof<S>, i: usize, j:
 }
 
 /// From `H |- p`: `H |- all x. p`.
-pub fn allI<S: TermStore + Drop>(alloc: Global, proof: &mut Proof<S>, x: &Name, ty: &Ty, i: usize) -> Result<usize, Memory>
+pub fn allI<S: TermStore>(alloc: Global, proof: &mut Proof<S>, x: &Name, ty: &Ty, i: usize) -> Result<usize, Memory>
     requires ty { type_fault proof.old.signature ty.now ≡ None }
     requires sure { is_ok (nameless_allI_gives (sequents proof.old) x.now ty.now i) ≡ true }
     ensures carries { Carries proof.old proof.new }
@@ -188,9 +183,8 @@ pub fn allI<S: TermStore + Drop>(alloc: Global, proof: &mut Proof<S>, x: &Name, 
 }
 
 /// From `H |- all p`: `H |- p` opened by `t`, or `p t`.
-pub fn allE<S: TermStore + Drop>(alloc: Global, proof: &mut Proof<S>, t: Id, i: usize) -> Result<usize, Memory>
-    requires t { t < length proof.old.nodes }
-    requires typed { nameless_fault proof.old.signature (tree_at proof.old.nodes t) ≡ None }
+pub fn allE<S: TermStore>(alloc: Global, proof: &mut Proof<S>, t: Id, i: usize) -> Result<usize, Memory>
+    requires t { IsTyped proof.old.signature proof.old.nodes t }
     requires sure { is_ok (nameless_allE_gives proof.old.signature (sequents proof.old) (tree_at proof.old.nodes t) i) ≡ true }
     ensures carries { Carries proof.old proof.new }
     ensures line { IfOk result (λ n. IsGiven proof.new n (nameless_allE_gives proof.old.signature (sequents proof.old) (tree_at proof.old.nodes t) i)) }
@@ -202,7 +196,7 @@ pub fn allE<S: TermStore + Drop>(alloc: Global, proof: &mut Proof<S>, t: Id, i: 
 }
 
 /// From `H |- p --> q` and `K |- q --> p`: `H, K |- p = q`.
-pub fn iff<S: TermStore + Drop>(alloc: Global, proof: &mut Proof<S>, i: usize, j: usize) -> Result<usize, Memory>
+pub fn iff<S: TermStore>(alloc: Global, proof: &mut Proof<S>, i: usize, j: usize) -> Result<usize, Memory>
     requires sure { is_ok (nameless_iff_gives (sequents proof.old) i j) ≡ true }
     ensures carries { Carries proof.old proof.new }
     ensures line { IfOk result (λ n. IsGiven proof.new n (nameless_iff_gives (sequents proof.old) i j)) }
@@ -214,10 +208,9 @@ pub fn iff<S: TermStore + Drop>(alloc: Global, proof: &mut Proof<S>, i: usize, j
 }
 
 /// From `H |- p`: the variable replaced by `t` in both.
-pub fn inst<S: TermStore + Drop>(alloc: Global, proof: &mut Proof<S>, x: &Name, ty: &Ty, t: Id, i: usize) -> Result<usize, Memory>
+pub fn inst<S: TermStore>(alloc: Global, proof: &mut Proof<S>, x: &Name, ty: &Ty, t: Id, i: usize) -> Result<usize, Memory>
     requires ty { type_fault proof.old.signature ty.now ≡ None }
-    requires t { t < length proof.old.nodes }
-    requires typed { nameless_fault proof.old.signature (tree_at proof.old.nodes t) ≡ None }
+    requires t { IsTyped proof.old.signature proof.old.nodes t }
     requires sure { is_ok (nameless_inst_gives proof.old.signature (sequents proof.old) x.now ty.now (tree_at proof.old.nodes t) i) ≡ true }
     ensures carries { Carries proof.old proof.new }
     ensures line { IfOk result (λ n. IsGiven proof.new n (nameless_inst_gives proof.old.signature (sequents proof.old) x.now ty.now (tree_at proof.old.nodes t) i)) }
@@ -231,7 +224,7 @@ pub fn inst<S: TermStore + Drop>(alloc: Global, proof: &mut Proof<S>, x: &Name, 
 }
 
 /// From `H |- p`: the type variable replaced by the type in both.
-pub fn tinst<S: TermStore + Drop>(alloc: Global, proof: &mut Proof<S>, a: &Name, ty: &Ty, i: usize) -> Result<usize, Memory>
+pub fn tinst<S: TermStore>(alloc: Global, proof: &mut Proof<S>, a: &Name, ty: &Ty, i: usize) -> Result<usize, Memory>
     requires ty { type_fault proof.old.signature ty.now ≡ None }
     requires sure { is_ok (nameless_tinst_gives (sequents proof.old) a.now ty.now i) ≡ true }
     ensures carries { Carries proof.old proof.new }
@@ -246,9 +239,8 @@ pub fn tinst<S: TermStore + Drop>(alloc: Global, proof: &mut Proof<S>, a: &Name,
 }
 
 /// `|- all x. p x --> p (eps p)`.
-pub fn select<S: TermStore + Drop>(alloc: Global, proof: &mut Proof<S>, p: Id) -> Result<usize, Memory>
-    requires p { p < length proof.old.nodes }
-    requires typed { nameless_fault proof.old.signature (tree_at proof.old.nodes p) ≡ None }
+pub fn select<S: TermStore>(alloc: Global, proof: &mut Proof<S>, p: Id) -> Result<usize, Memory>
+    requires p { IsTyped proof.old.signature proof.old.nodes p }
     requires sure { is_ok (nameless_select_gives proof.old.signature (tree_at proof.old.nodes p)) ≡ true }
     ensures carries { Carries proof.old proof.new }
     ensures line { IfOk result (λ n. IsGiven proof.new n (nameless_select_gives proof.old.signature (tree_at proof.old.nodes p))) }
@@ -260,9 +252,8 @@ pub fn select<S: TermStore + Drop>(alloc: Global, proof: &mut Proof<S>, p: Id) -
 }
 
 /// `|- ((p --> F) --> F) --> p`.
-pub fn ccontr<S: TermStore + Drop>(alloc: Global, proof: &mut Proof<S>, p: Id) -> Result<usize, Memory>
-    requires p { p < length proof.old.nodes }
-    requires typed { nameless_fault proof.old.signature (tree_at proof.old.nodes p) ≡ None }
+pub fn ccontr<S: TermStore>(alloc: Global, proof: &mut Proof<S>, p: Id) -> Result<usize, Memory>
+    requires p { IsTyped proof.old.signature proof.old.nodes p }
     requires sure { is_ok (nameless_ccontr_gives proof.old.signature (tree_at proof.old.nodes p)) ≡ true }
     ensures carries { Carries proof.old proof.new }
     ensures line { IfOk result (λ n. IsGiven proof.new n (nameless_ccontr_gives proof.old.signature (tree_at proof.old.nodes p))) }
@@ -274,7 +265,7 @@ pub fn ccontr<S: TermStore + Drop>(alloc: Global, proof: &mut Proof<S>, p: Id) -
 }
 
 /// `|-` the statement of the label.
-pub fn thm<S: TermStore + Drop>(alloc: Global, proof: &mut Proof<S>, label: &Name) -> Result<usize, Memory>
+pub fn thm<S: TermStore>(alloc: Global, proof: &mut Proof<S>, label: &Name) -> Result<usize, Memory>
     requires sure { is_ok (nameless_thm_gives (statements proof.old) label.now) ≡ true }
     ensures carries { Carries proof.old proof.new }
     ensures line { IfOk result (λ n. IsGiven proof.new n (nameless_thm_gives (statements proof.old) label.now)) }

@@ -11,7 +11,7 @@ use std::process::Abort;
 use std::test::Fail;
 
 /// The id of the term of a text.
-fn id<S: TermStore + Drop>(alloc: Global, proof: &mut Proof<S>, text: &str) -> Result<Id, Fail>
+fn id<S: TermStore>(alloc: Global, proof: &mut Proof<S>, text: &str) -> Result<Id, Fail>
     ensures { IfOk result (λ t. t < length proof.new.nodes) }
 {
     let (_, term) = parts(alloc, text)?;
@@ -20,7 +20,7 @@ fn id<S: TermStore + Drop>(alloc: Global, proof: &mut Proof<S>, text: &str) -> R
 }
 
 /// Names the constant `p`.
-fn state<S: TermStore + Drop>(
+fn state<S: TermStore>(
     alloc: Global,
     proof: &mut Proof<S>,
     label: &str,
@@ -31,7 +31,7 @@ fn state<S: TermStore + Drop>(
 }
 
 /// The line that cites a statement.
-fn cite<S: TermStore + Drop>(
+fn cite<S: TermStore>(
     alloc: Global,
     proof: &mut Proof<S>,
     label: &str,
@@ -41,7 +41,7 @@ fn cite<S: TermStore + Drop>(
 }
 
 /// A line that cites a statement, and its number.
-fn cited_as_first<S: TermStore + Drop>(
+fn cited_as_first<S: TermStore>(
     alloc: Global,
     rt: &impl Abort,
     proof: &mut Proof<S>,
@@ -59,7 +59,7 @@ fn is_duplicate(answer: Result<(), RuleFault>) -> bool {
 }
 
 /// States the constant `p`. Its label is not taken again.
-fn stated<S: TermStore + Drop>(
+fn stated<S: TermStore>(
     alloc: Global,
     rt: &impl Abort,
     proof: &mut Proof<S>,
@@ -79,7 +79,7 @@ fn lines_are_kept_until_they_are_cleared(rt: HostRuntime) -> Result<(), Fail> {
 }
 
 /// Lines before and after they are cleared.
-fn clears<S: TermStore + Drop>(
+fn clears<S: TermStore>(
     alloc: Global,
     rt: &impl Abort,
     proof: &mut Proof<S>,
@@ -93,7 +93,7 @@ fn clears<S: TermStore + Drop>(
 }
 
 /// What a mark cuts off: a type, a constant, a statement and a line.
-fn more<S: TermStore + Drop>(
+fn more<S: TermStore>(
     alloc: Global,
     rt: &impl Abort,
     proof: &mut Proof<S>,
@@ -107,7 +107,7 @@ fn more<S: TermStore + Drop>(
 }
 
 /// Whether a type of the name is declared.
-fn has_type<S: TermStore + Drop>(
+fn has_type<S: TermStore>(
     alloc: Global,
     proof: &Proof<S>,
     text: &str,
@@ -117,7 +117,7 @@ fn has_type<S: TermStore + Drop>(
 }
 
 /// Goes back to a mark after more was declared.
-fn more_and_back<S: TermStore + Drop>(
+fn more_and_back<S: TermStore>(
     alloc: Global,
     rt: &impl Abort,
     proof: &mut Proof<S>,
@@ -141,7 +141,7 @@ fn what_came_after_a_mark_goes(rt: HostRuntime) -> Result<(), Fail> {
 }
 
 /// Goes back to a mark twice.
-fn goes_back<S: TermStore + Drop>(
+fn goes_back<S: TermStore>(
     alloc: Global,
     rt: &impl Abort,
     proof: &mut Proof<S>,
@@ -171,7 +171,7 @@ fn redex<S: TermStore>(alloc: Global, rt: &impl Abort, store: &mut S) -> Result<
 }
 
 /// A free variable, which is viewed as one.
-fn viewed<S: TermStore + Drop>(
+fn viewed<S: TermStore>(
     alloc: Global,
     rt: &impl Abort,
     proof: &mut Proof<S>,
@@ -191,7 +191,7 @@ fn a_proof_is_a_store(rt: HostRuntime) -> Result<(), Fail> {
 }
 
 /// The calls of a store at a proof.
-fn stores<S: TermStore + Drop>(
+fn stores<S: TermStore>(
     alloc: Global,
     rt: &impl Abort,
     proof: &mut Proof<S>,
@@ -214,7 +214,7 @@ fn a_proof_passes_over_its_own_terms(rt: HostRuntime) -> Result<(), Fail> {
 }
 
 /// A variable that is closed and opened by a constant is that constant. Closed with its binder it is the identity.
-fn closes_and_opens<S: TermStore + Drop>(
+fn closes_and_opens<S: TermStore>(
     alloc: Global,
     rt: &impl Abort,
     proof: &mut Proof<S>,
@@ -237,7 +237,7 @@ fn closes_and_opens<S: TermStore + Drop>(
 }
 
 /// A variable at another type.
-fn puts_types<S: TermStore + Drop>(
+fn puts_types<S: TermStore>(
     alloc: Global,
     rt: &impl Abort,
     proof: &mut Proof<S>,
@@ -260,7 +260,7 @@ fn a_sure_line_is_there(rt: HostRuntime) -> Result<(), Fail> {
 }
 
 /// An equation, whose conclusion is looked at.
-fn is_sure<S: TermStore + Drop>(
+fn is_sure<S: TermStore>(
     alloc: Global,
     rt: &impl Abort,
     proof: &mut Proof<S>,
