@@ -12,7 +12,7 @@ use Rattle.lt_nameless.specs.NamelessRules.{NamelessOutcome, IsBooleanNameless, 
 use Rattle.lt_nameless.proofs.NamelessBooleans.{nameless_rules_keep_booleans}
 use Rattle.lt_hol.specs.declared.line.Line.{Line}
 use Rattle.lt_store.specs.Trees.{tree_at}
-use Rattle.lt_store.proofs.Trees.{extends_same, extends_on}
+use Rattle.lt_store.proofs.TreeLemmas.{extends_same, extends_on}
 use Rattle.lt_kernel.specs.declared.sequent.Step.{Step}
 use Rattle.lt_kernel.specs.declared.rule_fault.RuleFault.{RuleFault}
 use Rattle.lt_kernel.specs.declared.rule_fault.RuleFault.TheVariants.{Bad, Duplicate, Memory}

@@ -11,7 +11,7 @@ use Rattle.lt_nameless.specs.NamelessRules.{NamelessOutcome}
 use Rattle.lt_hol.specs.declared.line.Line.{Line}
 use Rattle.lt_store.specs.declared.node.Node.{Node}
 use Rattle.lt_store.specs.Trees.{tree_at, Extends}
-use Rattle.lt_store.proofs.Trees.{tree_at-extends}
+use Rattle.lt_store.proofs.TreeLemmas.{tree_at-extends}
 use Rattle.lt_store.proofs.Lists.{trees-extends}
 use Rattle.lt_kernel.specs.declared.sequent.Sequent.{Sequent}
 use Rattle.lt_kernel.specs.declared.sequent.Step.{Step}

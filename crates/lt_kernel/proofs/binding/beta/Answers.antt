@@ -1,5 +1,5 @@
 use Rattle.std.proofs.Common.{sym}
-use Rattle.lt_store.proofs.Trees.{tree_at-extends}
+use Rattle.lt_store.proofs.TreeLemmas.{tree_at-extends}
 use Rattle.lt_kernel.proofs.Outcomes.{gives-alone, beta-gives}
 use Rattle.lt_kernel.proofs.binding.beta.Goals as goal
 

@@ -1,5 +1,5 @@
 use Rattle.std.proofs.Common.{sym, ◌∙◌}
-use Rattle.lt_store.proofs.Trees.{tree_at-extends}
+use Rattle.lt_store.proofs.TreeLemmas.{tree_at-extends}
 use Rattle.lt_kernel.proofs.Outcomes.{gives-alone, eta-gives}
 use Rattle.lt_kernel.proofs.binding.eta.Goals as goal
 

@@ -1,6 +1,6 @@
 use Rattle.std.proofs.Common.{ap}
 use Rattle.lt_store.specs.Trees.{trees}
-use Rattle.lt_store.proofs.Trees.{tree_at-extends, extends_on}
+use Rattle.lt_store.proofs.TreeLemmas.{tree_at-extends, extends_on}
 use Rattle.lt_nameless.proofs.NamelessRuleLemmas.{allI-gives}
 use Rattle.lt_kernel.proofs.Outcomes.{gives-later, not-true}
 use Rattle.lt_kernel.proofs.quantifying.allI.Goals as goal

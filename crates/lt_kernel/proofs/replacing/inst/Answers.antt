@@ -1,5 +1,5 @@
 use Rattle.lt_store.specs.Trees.{tree_at}
-use Rattle.lt_store.proofs.Trees.{tree_at-extends}
+use Rattle.lt_store.proofs.TreeLemmas.{tree_at-extends}
 use Rattle.lt_nameless.proofs.NamelessRuleLemmas.{inst-gives}
 use Rattle.lt_kernel.proofs.Outcomes.{gives-later}
 use Rattle.lt_kernel.proofs.replacing.inst.Goals as goal

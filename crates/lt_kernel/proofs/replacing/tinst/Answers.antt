@@ -1,4 +1,4 @@
-use Rattle.lt_store.proofs.Trees.{tree_at-extends}
+use Rattle.lt_store.proofs.TreeLemmas.{tree_at-extends}
 use Rattle.lt_nameless.proofs.NamelessRuleLemmas.{tinst-gives}
 use Rattle.lt_kernel.proofs.Outcomes.{gives-later}
 use Rattle.lt_kernel.proofs.replacing.tinst.Goals as goal
