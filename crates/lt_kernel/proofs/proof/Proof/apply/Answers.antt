@@ -49,19 +49,27 @@ returns-clause-answers g c =
     subst AtOld c.self.view_is (subst AtNew (sym c.in_ok-number.ensures.ok) added)
 
 pub returns-in-Err-clause-carries : goal.returns-in-Err-clause-carries
-returns-in-Err-clause-carries g c = answers-carries _ _ _ _ c.requires (returns-in-Err-clause-answers g c)
+returns-in-Err-clause-carries g c = answers-carries _ _ _ (Err c.in-Err.fault) c.requires (returns-in-Err-clause-answers g c)
 
 pub returns-in_err-number-clause-carries : goal.returns-in_err-number-clause-carries
 returns-in_err-number-clause-carries g c = answers-carries _ _ _ _ c.requires (returns-in_err-number-clause-answers g c)
 
 pub returns-clause-carries : goal.returns-clause-carries
-returns-clause-carries g c = answers-carries _ _ _ _ c.requires (returns-clause-answers g c)
+returns-clause-carries g c = answers-carries _ _ _ (Ok c.in_ok-number.number) c.requires (returns-clause-answers g c)
 
 pub returns-in-Err-clause-reaches : goal.returns-in-Err-clause-reaches
-returns-in-Err-clause-reaches g c = answers-reaches _ _ _ _ _ (returns-in-Err-clause-answers g c)
+returns-in-Err-clause-reaches g c =
+    let inside = c.self.inside in
+    let old = c.args.self.now in
+    answers-reaches old (state (g.S.TermStore.nodes c.derive.new.store) inside.signature inside.named.entries inside.steps.items) c.args.line.now
+    (Err c.in-Err.fault) (step_of old c.args.line.now) (returns-in-Err-clause-answers g c)
 
 pub returns-in_err-number-clause-reaches : goal.returns-in_err-number-clause-reaches
 returns-in_err-number-clause-reaches g c = answers-reaches _ _ _ _ _ (returns-in_err-number-clause-answers g c)
 
 pub returns-clause-reaches : goal.returns-clause-reaches
-returns-clause-reaches g c = answers-reaches _ _ _ _ _ (returns-clause-answers g c)
+returns-clause-reaches g c =
+    let inside = c.self.inside in
+    let old = c.args.self.now in
+    answers-reaches old (state (g.S.TermStore.nodes c.derive.new.store) inside.signature inside.named.entries c.add_step.new.steps.items) c.args.line.now
+    (Ok c.in_ok-number.number) (step_of old c.args.line.now) (returns-clause-answers g c)
