@@ -62,9 +62,9 @@ sound-from : (s : State) (sig : Signature) (named : List (Chars × Nameless)) (d
     → s.signature ≡ sig → statements s ≡ named → sequents s ≡ done → AreSound sig named done → IsSound s
 sound-from s sig named done e d f h =
     let at : AreSound s.signature (statements s) (sequents s) =
-        subst (λ (x : Signature). AreSound x (statements s) (sequents s)) (sym e)
-        (subst (λ (x : List (Chars × Nameless)). AreSound sig x (sequents s)) (sym d)
-        (subst (λ (x : List NamelessSequent). AreSound sig named x) (sym f) h)) in
+    subst (λ (x : Signature). AreSound x (statements s) (sequents s)) (sym e)
+    (subst (λ (x : List (Chars × Nameless)). AreSound sig x (sequents s)) (sym d)
+    (subst (λ (x : List NamelessSequent). AreSound sig named x) (sym f) h)) in
     record { signature = at.0; statements = at.1; lines = at.2 }
 
 -- nothing is stated and derived over sound declarations

@@ -75,17 +75,17 @@ pub adds-line : (old new : List Node) (sig : Signature) (named : List (Chars × 
     → AddsLine (state old sig named steps) (state new sig named (steps ++ step ∷ [])) by outcome n
 adds-line old new sig named steps step by outcome n e h k line made number =
     let last : sequents_at new (steps ++ step ∷ []) ≡ sequents_at old steps ++ sequent_at new step.sequent ∷ [] =
-        map-append (λ (s : Step). sequent_at new s.sequent) steps (step ∷ []) ∙ ap (λ gs. gs ++ sequent_at new step.sequent ∷ []) (sequents-extends old new steps e h) in
+    map-append (λ (s : Step). sequent_at new s.sequent) steps (step ∷ []) ∙ ap (λ gs. gs ++ sequent_at new step.sequent ∷ []) (sequents-extends old new steps e h) in
     let count : n ≡ suc (length (sequents_at old steps)) = number ∙ length-last steps step ∙ ap suc (sym (as-many-lines (state old sig named steps))) in record {
-  stays = record { nodes = e; signature = refl; named = refl; statements = statements-extends old new named e k };
-  step = step;
-  line = line;
-  gives = made.0;
-  steps = refl;
-  sequents = last;
-  number = number;
-  there = ap (λ ss. line_at ss n) last ∙ line-last (sequents_at old steps) (sequent_at new step.sequent) n count;
-}
+      stays = record { nodes = e; signature = refl; named = refl; statements = statements-extends old new named e k };
+      step = step;
+      line = line;
+      gives = made.0;
+      steps = refl;
+      sequents = last;
+      number = number;
+      there = ap (λ ss. line_at ss n) last ∙ line-last (sequents_at old steps) (sequent_at new step.sequent) n count;
+    }
 
 -- the store has grown, and the rule's reason, or want of memory, is answered
 pub answers-fault : (old new : State) (by : Line) (e : RuleFault) (outcome : NamelessOutcome) → Gives new.nodes (Err e) outcome → Keeps old new → Answers old new by (Err e) outcome

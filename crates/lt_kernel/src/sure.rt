@@ -29,7 +29,12 @@ pub fn assume<S: TermStore>(alloc: Global, proof: &mut Proof<S>, p: Id) -> Resul
 }
 
 /// From `H |- q`: `H, p |- q`.
-pub fn weaken<S: TermStore>(alloc: Global, proof: &mut Proof<S>, p: Id, i: usize) -> Result<usize, Memory>
+pub fn weaken<S: TermStore>(
+    alloc: Global,
+    proof: &mut Proof<S>,
+    p: Id,
+    i: usize,
+) -> Result<usize, Memory>
     requires p { IsTyped proof.old.signature proof.old.nodes p }
     requires sure { is_ok (nameless_weaken_gives proof.old.signature (sequents proof.old) (tree_at proof.old.nodes p) i) ≡ true }
     ensures carries { Carries proof.old proof.new }
@@ -66,7 +71,12 @@ pub fn sym<S: TermStore>(alloc: Global, proof: &mut Proof<S>, i: usize) -> Resul
 }
 
 /// From `H |- r = s` and `K |- s = t`: `H, K |- r = t`.
-pub fn trans<S: TermStore>(alloc: Global, proof: &mut Proof<S>, i: usize, j: usize) -> Result<usize, Memory>
+pub fn trans<S: TermStore>(
+    alloc: Global,
+    proof: &mut Proof<S>,
+    i: usize,
+    j: usize,
+) -> Result<usize, Memory>
     requires sure { is_ok (nameless_trans_gives (sequents proof.old) i j) ≡ true }
     ensures carries { Carries proof.old proof.new }
     ensures line { IfOk result (λ n. IsGiven proof.new n (nameless_trans_gives (sequents proof.old) i j)) }
@@ -78,7 +88,12 @@ pub fn trans<S: TermStore>(alloc: Global, proof: &mut Proof<S>, i: usize, j: usi
 }
 
 /// From `H |- f = g` and `K |- a = b`: `H, K |- f a = g b`.
-pub fn cong<S: TermStore>(alloc: Global, proof: &mut Proof<S>, i: usize, j: usize) -> Result<usize, Memory>
+pub fn cong<S: TermStore>(
+    alloc: Global,
+    proof: &mut Proof<S>,
+    i: usize,
+    j: usize,
+) -> Result<usize, Memory>
     requires sure { is_ok (nameless_cong_gives (sequents proof.old) i j) ≡ true }
     ensures carries { Carries proof.old proof.new }
     ensures line { IfOk result (λ n. IsGiven proof.new n (nameless_cong_gives (sequents proof.old) i j)) }
@@ -90,7 +105,13 @@ pub fn cong<S: TermStore>(alloc: Global, proof: &mut Proof<S>, i: usize, j: usiz
 }
 
 /// From `H |- s = t`: `H |- (\x. s) = (\x. t)`.
-pub fn abs<S: TermStore>(alloc: Global, proof: &mut Proof<S>, x: &Name, ty: &Ty, i: usize) -> Result<usize, Memory>
+pub fn abs<S: TermStore>(
+    alloc: Global,
+    proof: &mut Proof<S>,
+    x: &Name,
+    ty: &Ty,
+    i: usize,
+) -> Result<usize, Memory>
     requires ty { type_fault proof.old.signature ty.now ≡ None }
     requires sure { is_ok (nameless_abs_gives (sequents proof.old) x.now ty.now i) ≡ true }
     ensures carries { Carries proof.old proof.new }
@@ -131,7 +152,12 @@ pub fn eta<S: TermStore>(alloc: Global, proof: &mut Proof<S>, t: Id) -> Result<u
 }
 
 /// From `H |- p = q` and `K |- p`: `H, K |- q`.
-pub fn eqmp<S: TermStore>(alloc: Global, proof: &mut Proof<S>, i: usize, j: usize) -> Result<usize, Memory>
+pub fn eqmp<S: TermStore>(
+    alloc: Global,
+    proof: &mut Proof<S>,
+    i: usize,
+    j: usize,
+) -> Result<usize, Memory>
     requires sure { is_ok (nameless_eqmp_gives (sequents proof.old) i j) ≡ true }
     ensures carries { Carries proof.old proof.new }
     ensures line { IfOk result (λ n. IsGiven proof.new n (nameless_eqmp_gives (sequents proof.old) i j)) }
@@ -143,7 +169,12 @@ pub fn eqmp<S: TermStore>(alloc: Global, proof: &mut Proof<S>, i: usize, j: usiz
 }
 
 /// From `H |- q`: `H` without `p |- p --> q`.
-pub fn impI<S: TermStore>(alloc: Global, proof: &mut Proof<S>, p: Id, i: usize) -> Result<usize, Memory>
+pub fn impI<S: TermStore>(
+    alloc: Global,
+    proof: &mut Proof<S>,
+    p: Id,
+    i: usize,
+) -> Result<usize, Memory>
     requires p { IsTyped proof.old.signature proof.old.nodes p }
     requires sure { is_ok (nameless_impI_gives proof.old.signature (sequents proof.old) (tree_at proof.old.nodes p) i) ≡ true }
     ensures carries { Carries proof.old proof.new }
@@ -156,7 +187,12 @@ pub fn impI<S: TermStore>(alloc: Global, proof: &mut Proof<S>, p: Id, i: usize) 
 }
 
 /// From `H |- p --> q` and `K |- p`: `H, K |- q`.
-pub fn mp<S: TermStore>(alloc: Global, proof: &mut Proof<S>, i: usize, j: usize) -> Result<usize, Memory>
+pub fn mp<S: TermStore>(
+    alloc: Global,
+    proof: &mut Proof<S>,
+    i: usize,
+    j: usize,
+) -> Result<usize, Memory>
     requires sure { is_ok (nameless_mp_gives (sequents proof.old) i j) ≡ true }
     ensures carries { Carries proof.old proof.new }
     ensures line { IfOk result (λ n. IsGiven proof.new n (nameless_mp_gives (sequents proof.old) i j)) }
@@ -168,7 +204,13 @@ pub fn mp<S: TermStore>(alloc: Global, proof: &mut Proof<S>, i: usize, j: usize)
 }
 
 /// From `H |- p`: `H |- all x. p`.
-pub fn allI<S: TermStore>(alloc: Global, proof: &mut Proof<S>, x: &Name, ty: &Ty, i: usize) -> Result<usize, Memory>
+pub fn allI<S: TermStore>(
+    alloc: Global,
+    proof: &mut Proof<S>,
+    x: &Name,
+    ty: &Ty,
+    i: usize,
+) -> Result<usize, Memory>
     requires ty { type_fault proof.old.signature ty.now ≡ None }
     requires sure { is_ok (nameless_allI_gives (sequents proof.old) x.now ty.now i) ≡ true }
     ensures carries { Carries proof.old proof.new }
@@ -183,7 +225,12 @@ pub fn allI<S: TermStore>(alloc: Global, proof: &mut Proof<S>, x: &Name, ty: &Ty
 }
 
 /// From `H |- all p`: `H |- p` opened by `t`, or `p t`.
-pub fn allE<S: TermStore>(alloc: Global, proof: &mut Proof<S>, t: Id, i: usize) -> Result<usize, Memory>
+pub fn allE<S: TermStore>(
+    alloc: Global,
+    proof: &mut Proof<S>,
+    t: Id,
+    i: usize,
+) -> Result<usize, Memory>
     requires t { IsTyped proof.old.signature proof.old.nodes t }
     requires sure { is_ok (nameless_allE_gives proof.old.signature (sequents proof.old) (tree_at proof.old.nodes t) i) ≡ true }
     ensures carries { Carries proof.old proof.new }
@@ -196,7 +243,12 @@ pub fn allE<S: TermStore>(alloc: Global, proof: &mut Proof<S>, t: Id, i: usize) 
 }
 
 /// From `H |- p --> q` and `K |- q --> p`: `H, K |- p = q`.
-pub fn iff<S: TermStore>(alloc: Global, proof: &mut Proof<S>, i: usize, j: usize) -> Result<usize, Memory>
+pub fn iff<S: TermStore>(
+    alloc: Global,
+    proof: &mut Proof<S>,
+    i: usize,
+    j: usize,
+) -> Result<usize, Memory>
     requires sure { is_ok (nameless_iff_gives (sequents proof.old) i j) ≡ true }
     ensures carries { Carries proof.old proof.new }
     ensures line { IfOk result (λ n. IsGiven proof.new n (nameless_iff_gives (sequents proof.old) i j)) }
@@ -208,7 +260,14 @@ pub fn iff<S: TermStore>(alloc: Global, proof: &mut Proof<S>, i: usize, j: usize
 }
 
 /// From `H |- p`: the variable replaced by `t` in both.
-pub fn inst<S: TermStore>(alloc: Global, proof: &mut Proof<S>, x: &Name, ty: &Ty, t: Id, i: usize) -> Result<usize, Memory>
+pub fn inst<S: TermStore>(
+    alloc: Global,
+    proof: &mut Proof<S>,
+    x: &Name,
+    ty: &Ty,
+    t: Id,
+    i: usize,
+) -> Result<usize, Memory>
     requires ty { type_fault proof.old.signature ty.now ≡ None }
     requires t { IsTyped proof.old.signature proof.old.nodes t }
     requires sure { is_ok (nameless_inst_gives proof.old.signature (sequents proof.old) x.now ty.now (tree_at proof.old.nodes t) i) ≡ true }
@@ -224,7 +283,13 @@ pub fn inst<S: TermStore>(alloc: Global, proof: &mut Proof<S>, x: &Name, ty: &Ty
 }
 
 /// From `H |- p`: the type variable replaced by the type in both.
-pub fn tinst<S: TermStore>(alloc: Global, proof: &mut Proof<S>, a: &Name, ty: &Ty, i: usize) -> Result<usize, Memory>
+pub fn tinst<S: TermStore>(
+    alloc: Global,
+    proof: &mut Proof<S>,
+    a: &Name,
+    ty: &Ty,
+    i: usize,
+) -> Result<usize, Memory>
     requires ty { type_fault proof.old.signature ty.now ≡ None }
     requires sure { is_ok (nameless_tinst_gives (sequents proof.old) a.now ty.now i) ≡ true }
     ensures carries { Carries proof.old proof.new }

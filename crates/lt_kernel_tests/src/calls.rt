@@ -59,11 +59,7 @@ fn is_duplicate(answer: Result<(), RuleFault>) -> bool {
 }
 
 /// States the constant `p`. Its label is not taken again.
-fn stated<S: TermStore>(
-    alloc: Global,
-    rt: &impl Abort,
-    proof: &mut Proof<S>,
-) -> Result<(), Fail> {
+fn stated<S: TermStore>(alloc: Global, rt: &impl Abort, proof: &mut Proof<S>) -> Result<(), Fail> {
     state(alloc, proof, "l")??;
     let again = state(alloc, proof, "l")?;
     let is_refused = is_duplicate(again);
@@ -79,11 +75,7 @@ fn lines_are_kept_until_they_are_cleared(rt: HostRuntime) -> Result<(), Fail> {
 }
 
 /// Lines before and after they are cleared.
-fn clears<S: TermStore>(
-    alloc: Global,
-    rt: &impl Abort,
-    proof: &mut Proof<S>,
-) -> Result<(), Fail> {
+fn clears<S: TermStore>(alloc: Global, rt: &impl Abort, proof: &mut Proof<S>) -> Result<(), Fail> {
     stated(alloc, rt, proof)?;
     cited_as_first(alloc, rt, proof)?;
     proof.clear();
@@ -93,11 +85,7 @@ fn clears<S: TermStore>(
 }
 
 /// What a mark cuts off: a type, a constant, a statement and a line.
-fn more<S: TermStore>(
-    alloc: Global,
-    rt: &impl Abort,
-    proof: &mut Proof<S>,
-) -> Result<(), Fail> {
+fn more<S: TermStore>(alloc: Global, rt: &impl Abort, proof: &mut Proof<S>) -> Result<(), Fail> {
     declare_type(alloc, proof, "t")?;
     declare_constant(alloc, proof, "c", "t")?;
     state(alloc, proof, "k")??;
@@ -107,11 +95,7 @@ fn more<S: TermStore>(
 }
 
 /// Whether a type of the name is declared.
-fn has_type<S: TermStore>(
-    alloc: Global,
-    proof: &Proof<S>,
-    text: &str,
-) -> Result<bool, Fail> {
+fn has_type<S: TermStore>(alloc: Global, proof: &Proof<S>, text: &str) -> Result<bool, Fail> {
     let name = name(alloc, text)?;
     Ok(proof.signature().arity(&name).is_some())
 }
@@ -171,11 +155,7 @@ fn redex<S: TermStore>(alloc: Global, rt: &impl Abort, store: &mut S) -> Result<
 }
 
 /// A free variable, which is viewed as one.
-fn viewed<S: TermStore>(
-    alloc: Global,
-    rt: &impl Abort,
-    proof: &mut Proof<S>,
-) -> Result<(), Fail> {
+fn viewed<S: TermStore>(alloc: Global, rt: &impl Abort, proof: &mut Proof<S>) -> Result<(), Fail> {
     let name = name(alloc, "x")?;
     let ty = plain_type(alloc, "bool")?;
     let x = proof.mk_free(alloc, name, ty)?;
@@ -191,11 +171,7 @@ fn a_proof_is_a_store(rt: HostRuntime) -> Result<(), Fail> {
 }
 
 /// The calls of a store at a proof.
-fn stores<S: TermStore>(
-    alloc: Global,
-    rt: &impl Abort,
-    proof: &mut Proof<S>,
-) -> Result<(), Fail> {
+fn stores<S: TermStore>(alloc: Global, rt: &impl Abort, proof: &mut Proof<S>) -> Result<(), Fail> {
     let made = redex(alloc, rt, proof)?;
     let read = id(alloc, proof, "uBUp.")?;
     let is = same(alloc, proof, made, read)?;
@@ -260,11 +236,7 @@ fn a_sure_line_is_there(rt: HostRuntime) -> Result<(), Fail> {
 }
 
 /// An equation, whose conclusion is looked at.
-fn is_sure<S: TermStore>(
-    alloc: Global,
-    rt: &impl Abort,
-    proof: &mut Proof<S>,
-) -> Result<(), Fail> {
+fn is_sure<S: TermStore>(alloc: Global, rt: &impl Abort, proof: &mut Proof<S>) -> Result<(), Fail> {
     let (_, term) = parts(alloc, "p")?;
     let p = put(alloc, proof, &term)?;
     let number = sure::refl(alloc, proof, p)?;

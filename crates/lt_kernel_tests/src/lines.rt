@@ -72,11 +72,7 @@ fn declare_function<S: TermStore>(
 }
 
 /// The id of a term, which has no fault.
-pub fn put<S: TermStore>(
-    alloc: Global,
-    proof: &mut Proof<S>,
-    term: &Term,
-) -> Result<Id, Fail>
+pub fn put<S: TermStore>(alloc: Global, proof: &mut Proof<S>, term: &Term) -> Result<Id, Fail>
     ensures within { IfOk result (λ t. t < length proof.new.nodes) }
     ensures typed { IfOk result (λ t. nameless_fault proof.new.signature (tree_at proof.new.nodes t) ≡ None) }
 {
@@ -246,12 +242,7 @@ fn is_sequent<S: TermStore>(
 }
 
 /// Whether two ids stand for one term.
-pub fn same<S: TermStore>(
-    alloc: Global,
-    proof: &Proof<S>,
-    a: Id,
-    b: Id,
-) -> Result<bool, Fail> {
+pub fn same<S: TermStore>(alloc: Global, proof: &Proof<S>, a: Id, b: Id) -> Result<bool, Fail> {
     if a >= proof.len() || b >= proof.len() {
         return Err("no term".into());
     }
