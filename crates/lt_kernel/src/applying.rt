@@ -22,7 +22,8 @@ pub(crate) fn cong<S: TermStore>(
 ) -> Result<Sequent, RuleFault>
     requires { AreWithin (length (S.nodes store.old)) done.now }
     ensures kept { Extends (S.nodes store.old) (S.nodes store.new) }
-    ensures step { Gives (S.nodes store.new) result (nameless_cong_gives (sequents_at (S.nodes store.old) done.now) i j) }
+    ensures step { Gives (S.nodes store.new) result
+        (nameless_cong_gives (sequents_at (S.nodes store.old) done.now) i j) }
 {
     let first = line_at(store, done, i)?;
     let second = line_at(store, done, j)?;

@@ -22,7 +22,8 @@ pub(crate) fn assume<S: TermStore>(
     p: Id,
 ) -> Result<Sequent, RuleFault>
     requires { IsTyped sig.now (S.nodes store.now) p }
-    ensures step { Gives (S.nodes store.now) result (nameless_assume_gives sig.now (tree_at (S.nodes store.now) p)) }
+    ensures step { Gives (S.nodes store.now) result
+        (nameless_assume_gives sig.now (tree_at (S.nodes store.now) p)) }
 {
     check_boolean(alloc, store, sig, p)?;
     let hyps = one(alloc, p)?;
@@ -41,7 +42,9 @@ pub(crate) fn weaken<S: TermStore>(
 ) -> Result<Sequent, RuleFault>
     requires done { AreWithin (length (S.nodes store.now)) done.now }
     requires p { IsTyped sig.now (S.nodes store.now) p }
-    ensures step { Gives (S.nodes store.now) result (nameless_weaken_gives sig.now (sequents_at (S.nodes store.now) done.now) (tree_at (S.nodes store.now) p) i) }
+    ensures step { Gives (S.nodes store.now) result
+        (nameless_weaken_gives sig.now (sequents_at (S.nodes store.now) done.now)
+        (tree_at (S.nodes store.now) p) i) }
 {
     let from = line_at(store, done, i)?;
     check_boolean(alloc, store, sig, p)?;
@@ -61,7 +64,8 @@ pub(crate) fn thm<S: TermStore>(
     label: &Name,
 ) -> Result<Sequent, RuleFault>
     requires { NamedWithin (length (S.nodes _store.now)) named.now.entries }
-    ensures step { Gives (S.nodes _store.now) result (nameless_thm_gives (statements_at (S.nodes _store.now) named.now.entries) label.now) }
+    ensures step { Gives (S.nodes _store.now) result
+        (nameless_thm_gives (statements_at (S.nodes _store.now) named.now.entries) label.now) }
 {
     let Some(concl) = named.get(label).copied() else {
         return Err(RuleFault::Bad(Reason::UnknownLabel));

@@ -24,7 +24,8 @@ pub(crate) fn abs<S: TermStore>(
 ) -> Result<Sequent, RuleFault>
     requires { AreWithin (length (S.nodes store.old)) done.now }
     ensures kept { Extends (S.nodes store.old) (S.nodes store.new) }
-    ensures step { Gives (S.nodes store.new) result (nameless_abs_gives (sequents_at (S.nodes store.old) done.now) x.now ty.now i) }
+    ensures step { Gives (S.nodes store.new) result
+        (nameless_abs_gives (sequents_at (S.nodes store.old) done.now) x.now ty.now i) }
 {
     let from = line_at(store, done, i)?;
     let sides = equation_of(alloc, store, from.concl)?;
@@ -44,7 +45,8 @@ pub(crate) fn beta<S: TermStore>(
 ) -> Result<Sequent, RuleFault>
     requires { IsTyped sig.now (S.nodes store.old) t }
     ensures kept { Extends (S.nodes store.old) (S.nodes store.new) }
-    ensures step { Gives (S.nodes store.new) result (nameless_beta_gives sig.now (tree_at (S.nodes store.old) t)) }
+    ensures step { Gives (S.nodes store.new) result
+        (nameless_beta_gives sig.now (tree_at (S.nodes store.old) t)) }
 {
     let Some((body, argument)) = redex_parts(store, t) else {
         return Err(RuleFault::Bad(Reason::NotRedex));
@@ -64,7 +66,8 @@ pub(crate) fn eta<S: TermStore>(
 ) -> Result<Sequent, RuleFault>
     requires { IsTyped sig.now (S.nodes store.old) t }
     ensures kept { Extends (S.nodes store.old) (S.nodes store.new) }
-    ensures step { Gives (S.nodes store.new) result (nameless_eta_gives sig.now (tree_at (S.nodes store.old) t)) }
+    ensures step { Gives (S.nodes store.new) result
+        (nameless_eta_gives sig.now (tree_at (S.nodes store.old) t)) }
 {
     let Some(function) = expanded(store, t) else {
         return Err(RuleFault::Bad(Reason::NotRedex));

@@ -21,8 +21,10 @@ impl<S: TermStore> Proof<S> {
     /// `p |- p`. `NotBool`.
     pub fn assume(&mut self, alloc: Global, p: Id) -> Result<usize, RuleFault>
         requires { IsTyped self.old.signature self.old.nodes p }
-        ensures answers { Answers self.old self.new (line.Assume p) result (nameless_assume_gives self.old.signature (tree_at self.old.nodes p)) }
-        ensures reaches { Reaches self.new result (nameless_assume_gives self.old.signature (tree_at self.old.nodes p)) }
+        ensures answers { Answers self.old self.new (line.Assume p) result
+            (nameless_assume_gives self.old.signature (tree_at self.old.nodes p)) }
+        ensures reaches { Reaches self.new result
+            (nameless_assume_gives self.old.signature (tree_at self.old.nodes p)) }
         ensures carries { Carries self.old self.new }
     {
         self.apply(alloc, &Line::Assume(p))
@@ -31,8 +33,12 @@ impl<S: TermStore> Proof<S> {
     /// From `H |- q`: `H, p |- q`. `MissingLine`, `NotBool`.
     pub fn weaken(&mut self, alloc: Global, p: Id, i: usize) -> Result<usize, RuleFault>
         requires { IsTyped self.old.signature self.old.nodes p }
-        ensures answers { Answers self.old self.new (line.Weaken p i) result (nameless_weaken_gives self.old.signature (sequents self.old) (tree_at self.old.nodes p) i) }
-        ensures reaches { Reaches self.new result (nameless_weaken_gives self.old.signature (sequents self.old) (tree_at self.old.nodes p) i) }
+        ensures answers { Answers self.old self.new (line.Weaken p i) result
+            (nameless_weaken_gives self.old.signature (sequents self.old)
+            (tree_at self.old.nodes p) i) }
+        ensures reaches { Reaches self.new result
+            (nameless_weaken_gives self.old.signature (sequents self.old)
+            (tree_at self.old.nodes p) i) }
         ensures carries { Carries self.old self.new }
     {
         self.apply(alloc, &Line::Weaken(p, i))
@@ -41,8 +47,10 @@ impl<S: TermStore> Proof<S> {
     /// `|- t = t`.
     pub fn refl(&mut self, alloc: Global, t: Id) -> Result<usize, RuleFault>
         requires { IsTyped self.old.signature self.old.nodes t }
-        ensures answers { Answers self.old self.new (line.Refl t) result (nameless_refl_gives self.old.signature (tree_at self.old.nodes t)) }
-        ensures reaches { Reaches self.new result (nameless_refl_gives self.old.signature (tree_at self.old.nodes t)) }
+        ensures answers { Answers self.old self.new (line.Refl t) result
+            (nameless_refl_gives self.old.signature (tree_at self.old.nodes t)) }
+        ensures reaches { Reaches self.new result
+            (nameless_refl_gives self.old.signature (tree_at self.old.nodes t)) }
         ensures carries { Carries self.old self.new }
     {
         self.apply(alloc, &Line::Refl(t))
@@ -50,7 +58,8 @@ impl<S: TermStore> Proof<S> {
 
     /// From `H |- s = t`: `H |- t = s`. `MissingLine`, `NotEquation`.
     pub fn sym(&mut self, alloc: Global, i: usize) -> Result<usize, RuleFault>
-        ensures answers { Answers self.old self.new (line.Sym i) result (nameless_sym_gives (sequents self.old) i) }
+        ensures answers { Answers self.old self.new (line.Sym i) result
+            (nameless_sym_gives (sequents self.old) i) }
         ensures reaches { Reaches self.new result (nameless_sym_gives (sequents self.old) i) }
         ensures carries { Carries self.old self.new }
     {
@@ -59,7 +68,8 @@ impl<S: TermStore> Proof<S> {
 
     /// From `H |- r = s` and `K |- s = t`: `H, K |- r = t`. `MissingLine`, `NotEquation`, `MiddleDiffers`.
     pub fn trans(&mut self, alloc: Global, i: usize, j: usize) -> Result<usize, RuleFault>
-        ensures answers { Answers self.old self.new (line.Trans i j) result (nameless_trans_gives (sequents self.old) i j) }
+        ensures answers { Answers self.old self.new (line.Trans i j) result
+            (nameless_trans_gives (sequents self.old) i j) }
         ensures reaches { Reaches self.new result (nameless_trans_gives (sequents self.old) i j) }
         ensures carries { Carries self.old self.new }
     {
@@ -68,7 +78,8 @@ impl<S: TermStore> Proof<S> {
 
     /// From `H |- f = g` and `K |- a = b`: `H, K |- f a = g b`. `MissingLine`, `NotEquation`, `TypeDiffers`.
     pub fn cong(&mut self, alloc: Global, i: usize, j: usize) -> Result<usize, RuleFault>
-        ensures answers { Answers self.old self.new (line.Cong i j) result (nameless_cong_gives (sequents self.old) i j) }
+        ensures answers { Answers self.old self.new (line.Cong i j) result
+            (nameless_cong_gives (sequents self.old) i j) }
         ensures reaches { Reaches self.new result (nameless_cong_gives (sequents self.old) i j) }
         ensures carries { Carries self.old self.new }
     {
@@ -78,7 +89,8 @@ impl<S: TermStore> Proof<S> {
     /// From `H |- s = t`: `H |- (\x. s) = (\x. t)`. `MissingLine`, `NotEquation`, `VariableInHypothesis`.
     pub fn abs(&mut self, alloc: Global, x: Name, ty: Ty, i: usize) -> Result<usize, RuleFault>
         requires { type_fault self.old.signature ty ≡ None }
-        ensures answers { Answers self.old self.new (line.Abs x ty i) result (nameless_abs_gives (sequents self.old) x ty i) }
+        ensures answers { Answers self.old self.new (line.Abs x ty i) result
+            (nameless_abs_gives (sequents self.old) x ty i) }
         ensures reaches { Reaches self.new result (nameless_abs_gives (sequents self.old) x ty i) }
         ensures carries { Carries self.old self.new }
     {
@@ -88,8 +100,10 @@ impl<S: TermStore> Proof<S> {
     /// `|- t = b`, the body of a redex opened. `NotRedex`.
     pub fn beta(&mut self, alloc: Global, t: Id) -> Result<usize, RuleFault>
         requires { IsTyped self.old.signature self.old.nodes t }
-        ensures answers { Answers self.old self.new (line.Beta t) result (nameless_beta_gives self.old.signature (tree_at self.old.nodes t)) }
-        ensures reaches { Reaches self.new result (nameless_beta_gives self.old.signature (tree_at self.old.nodes t)) }
+        ensures answers { Answers self.old self.new (line.Beta t) result
+            (nameless_beta_gives self.old.signature (tree_at self.old.nodes t)) }
+        ensures reaches { Reaches self.new result
+            (nameless_beta_gives self.old.signature (tree_at self.old.nodes t)) }
         ensures carries { Carries self.old self.new }
     {
         self.apply(alloc, &Line::Beta(t))
@@ -98,8 +112,10 @@ impl<S: TermStore> Proof<S> {
     /// `|- t = f`, where `t` is `\x. f x`. `NotRedex`.
     pub fn eta(&mut self, alloc: Global, t: Id) -> Result<usize, RuleFault>
         requires { IsTyped self.old.signature self.old.nodes t }
-        ensures answers { Answers self.old self.new (line.Eta t) result (nameless_eta_gives self.old.signature (tree_at self.old.nodes t)) }
-        ensures reaches { Reaches self.new result (nameless_eta_gives self.old.signature (tree_at self.old.nodes t)) }
+        ensures answers { Answers self.old self.new (line.Eta t) result
+            (nameless_eta_gives self.old.signature (tree_at self.old.nodes t)) }
+        ensures reaches { Reaches self.new result
+            (nameless_eta_gives self.old.signature (tree_at self.old.nodes t)) }
         ensures carries { Carries self.old self.new }
     {
         self.apply(alloc, &Line::Eta(t))
@@ -107,7 +123,8 @@ impl<S: TermStore> Proof<S> {
 
     /// From `H |- p = q` and `K |- p`: `H, K |- q`. `MissingLine`, `NotEquation`, `MiddleDiffers`.
     pub fn eqmp(&mut self, alloc: Global, i: usize, j: usize) -> Result<usize, RuleFault>
-        ensures answers { Answers self.old self.new (line.Eqmp i j) result (nameless_eqmp_gives (sequents self.old) i j) }
+        ensures answers { Answers self.old self.new (line.Eqmp i j) result
+            (nameless_eqmp_gives (sequents self.old) i j) }
         ensures reaches { Reaches self.new result (nameless_eqmp_gives (sequents self.old) i j) }
         ensures carries { Carries self.old self.new }
     {
@@ -117,8 +134,12 @@ impl<S: TermStore> Proof<S> {
     /// From `H |- q`: `H` without `p |- p --> q`. `MissingLine`, `NotBool`.
     pub fn impI(&mut self, alloc: Global, p: Id, i: usize) -> Result<usize, RuleFault>
         requires { IsTyped self.old.signature self.old.nodes p }
-        ensures answers { Answers self.old self.new (line.ImpI p i) result (nameless_impI_gives self.old.signature (sequents self.old) (tree_at self.old.nodes p) i) }
-        ensures reaches { Reaches self.new result (nameless_impI_gives self.old.signature (sequents self.old) (tree_at self.old.nodes p) i) }
+        ensures answers { Answers self.old self.new (line.ImpI p i) result
+            (nameless_impI_gives self.old.signature (sequents self.old)
+            (tree_at self.old.nodes p) i) }
+        ensures reaches { Reaches self.new result
+            (nameless_impI_gives self.old.signature (sequents self.old)
+            (tree_at self.old.nodes p) i) }
         ensures carries { Carries self.old self.new }
     {
         self.apply(alloc, &Line::ImpI(p, i))
@@ -126,7 +147,8 @@ impl<S: TermStore> Proof<S> {
 
     /// From `H |- p --> q` and `K |- p`: `H, K |- q`. `MissingLine`, `NotImplication`, `MiddleDiffers`.
     pub fn mp(&mut self, alloc: Global, i: usize, j: usize) -> Result<usize, RuleFault>
-        ensures answers { Answers self.old self.new (line.Mp i j) result (nameless_mp_gives (sequents self.old) i j) }
+        ensures answers { Answers self.old self.new (line.Mp i j) result
+            (nameless_mp_gives (sequents self.old) i j) }
         ensures reaches { Reaches self.new result (nameless_mp_gives (sequents self.old) i j) }
         ensures carries { Carries self.old self.new }
     {
@@ -136,7 +158,8 @@ impl<S: TermStore> Proof<S> {
     /// From `H |- p`: `H |- all x. p`. `MissingLine`, `VariableInHypothesis`.
     pub fn allI(&mut self, alloc: Global, x: Name, ty: Ty, i: usize) -> Result<usize, RuleFault>
         requires { type_fault self.old.signature ty ≡ None }
-        ensures answers { Answers self.old self.new (line.AllI x ty i) result (nameless_allI_gives (sequents self.old) x ty i) }
+        ensures answers { Answers self.old self.new (line.AllI x ty i) result
+            (nameless_allI_gives (sequents self.old) x ty i) }
         ensures reaches { Reaches self.new result (nameless_allI_gives (sequents self.old) x ty i) }
         ensures carries { Carries self.old self.new }
     {
@@ -146,8 +169,12 @@ impl<S: TermStore> Proof<S> {
     /// From `H |- all p`: `H |- p` opened by `t`, or `p t`. `MissingLine`, `NotForall`, `TypeDiffers`.
     pub fn allE(&mut self, alloc: Global, t: Id, i: usize) -> Result<usize, RuleFault>
         requires { IsTyped self.old.signature self.old.nodes t }
-        ensures answers { Answers self.old self.new (line.AllE t i) result (nameless_allE_gives self.old.signature (sequents self.old) (tree_at self.old.nodes t) i) }
-        ensures reaches { Reaches self.new result (nameless_allE_gives self.old.signature (sequents self.old) (tree_at self.old.nodes t) i) }
+        ensures answers { Answers self.old self.new (line.AllE t i) result
+            (nameless_allE_gives self.old.signature (sequents self.old)
+            (tree_at self.old.nodes t) i) }
+        ensures reaches { Reaches self.new result
+            (nameless_allE_gives self.old.signature (sequents self.old)
+            (tree_at self.old.nodes t) i) }
         ensures carries { Carries self.old self.new }
     {
         self.apply(alloc, &Line::AllE(t, i))
@@ -155,7 +182,8 @@ impl<S: TermStore> Proof<S> {
 
     /// From `H |- p --> q` and `K |- q --> p`: `H, K |- p = q`. `MissingLine`, `NotImplication`, `MiddleDiffers`.
     pub fn iff(&mut self, alloc: Global, i: usize, j: usize) -> Result<usize, RuleFault>
-        ensures answers { Answers self.old self.new (line.Iff i j) result (nameless_iff_gives (sequents self.old) i j) }
+        ensures answers { Answers self.old self.new (line.Iff i j) result
+            (nameless_iff_gives (sequents self.old) i j) }
         ensures reaches { Reaches self.new result (nameless_iff_gives (sequents self.old) i j) }
         ensures carries { Carries self.old self.new }
     {
@@ -173,8 +201,12 @@ impl<S: TermStore> Proof<S> {
     ) -> Result<usize, RuleFault>
         requires ty { type_fault self.old.signature ty ≡ None }
         requires t { IsTyped self.old.signature self.old.nodes t }
-        ensures answers { Answers self.old self.new (line.Inst x ty t i) result (nameless_inst_gives self.old.signature (sequents self.old) x ty (tree_at self.old.nodes t) i) }
-        ensures reaches { Reaches self.new result (nameless_inst_gives self.old.signature (sequents self.old) x ty (tree_at self.old.nodes t) i) }
+        ensures answers { Answers self.old self.new (line.Inst x ty t i) result
+            (nameless_inst_gives self.old.signature (sequents self.old) x ty
+            (tree_at self.old.nodes t) i) }
+        ensures reaches { Reaches self.new result
+            (nameless_inst_gives self.old.signature (sequents self.old) x ty
+            (tree_at self.old.nodes t) i) }
         ensures carries { Carries self.old self.new }
     {
         self.apply(alloc, &Line::Inst(x, ty, t, i))
@@ -183,8 +215,10 @@ impl<S: TermStore> Proof<S> {
     /// From `H |- p`: the type variable replaced by the type in both. `MissingLine`.
     pub fn tinst(&mut self, alloc: Global, a: Name, ty: Ty, i: usize) -> Result<usize, RuleFault>
         requires { type_fault self.old.signature ty ≡ None }
-        ensures answers { Answers self.old self.new (line.Tinst a ty i) result (nameless_tinst_gives (sequents self.old) a ty i) }
-        ensures reaches { Reaches self.new result (nameless_tinst_gives (sequents self.old) a ty i) }
+        ensures answers { Answers self.old self.new (line.Tinst a ty i) result
+            (nameless_tinst_gives (sequents self.old) a ty i) }
+        ensures reaches { Reaches self.new result
+            (nameless_tinst_gives (sequents self.old) a ty i) }
         ensures carries { Carries self.old self.new }
     {
         self.apply(alloc, &Line::Tinst(a, ty, i))
@@ -193,8 +227,10 @@ impl<S: TermStore> Proof<S> {
     /// `|- all x. p x --> p (eps p)`. `TypeDiffers`.
     pub fn select(&mut self, alloc: Global, p: Id) -> Result<usize, RuleFault>
         requires { IsTyped self.old.signature self.old.nodes p }
-        ensures answers { Answers self.old self.new (line.Select p) result (nameless_select_gives self.old.signature (tree_at self.old.nodes p)) }
-        ensures reaches { Reaches self.new result (nameless_select_gives self.old.signature (tree_at self.old.nodes p)) }
+        ensures answers { Answers self.old self.new (line.Select p) result
+            (nameless_select_gives self.old.signature (tree_at self.old.nodes p)) }
+        ensures reaches { Reaches self.new result
+            (nameless_select_gives self.old.signature (tree_at self.old.nodes p)) }
         ensures carries { Carries self.old self.new }
     {
         self.apply(alloc, &Line::Select(p))
@@ -203,8 +239,10 @@ impl<S: TermStore> Proof<S> {
     /// `|- ((p --> F) --> F) --> p`. `NotBool`.
     pub fn ccontr(&mut self, alloc: Global, p: Id) -> Result<usize, RuleFault>
         requires { IsTyped self.old.signature self.old.nodes p }
-        ensures answers { Answers self.old self.new (line.Ccontr p) result (nameless_ccontr_gives self.old.signature (tree_at self.old.nodes p)) }
-        ensures reaches { Reaches self.new result (nameless_ccontr_gives self.old.signature (tree_at self.old.nodes p)) }
+        ensures answers { Answers self.old self.new (line.Ccontr p) result
+            (nameless_ccontr_gives self.old.signature (tree_at self.old.nodes p)) }
+        ensures reaches { Reaches self.new result
+            (nameless_ccontr_gives self.old.signature (tree_at self.old.nodes p)) }
         ensures carries { Carries self.old self.new }
     {
         self.apply(alloc, &Line::Ccontr(p))
@@ -212,7 +250,8 @@ impl<S: TermStore> Proof<S> {
 
     /// `|-` the statement of the label. `UnknownLabel`.
     pub fn thm(&mut self, alloc: Global, label: Name) -> Result<usize, RuleFault>
-        ensures answers { Answers self.old self.new (line.Thm label) result (nameless_thm_gives (statements self.old) label) }
+        ensures answers { Answers self.old self.new (line.Thm label) result
+            (nameless_thm_gives (statements self.old) label) }
         ensures reaches { Reaches self.new result (nameless_thm_gives (statements self.old) label) }
         ensures carries { Carries self.old self.new }
     {

@@ -22,7 +22,8 @@ pub(crate) fn select<S: TermStore>(
 ) -> Result<Sequent, RuleFault>
     requires { IsTyped sig.now (S.nodes store.old) p }
     ensures kept { Extends (S.nodes store.old) (S.nodes store.new) }
-    ensures step { Gives (S.nodes store.new) result (nameless_select_gives sig.now (tree_at (S.nodes store.old) p)) }
+    ensures step { Gives (S.nodes store.new) result
+        (nameless_select_gives sig.now (tree_at (S.nodes store.old) p)) }
 {
     let of = type_of(alloc, store, sig, p)?;
     let Some(ty) = predicate_over(alloc, &of)? else {
@@ -41,7 +42,8 @@ pub(crate) fn ccontr<S: TermStore>(
 ) -> Result<Sequent, RuleFault>
     requires { IsTyped sig.now (S.nodes store.old) p }
     ensures kept { Extends (S.nodes store.old) (S.nodes store.new) }
-    ensures step { Gives (S.nodes store.new) result (nameless_ccontr_gives sig.now (tree_at (S.nodes store.old) p)) }
+    ensures step { Gives (S.nodes store.new) result
+        (nameless_ccontr_gives sig.now (tree_at (S.nodes store.old) p)) }
 {
     check_boolean(alloc, store, sig, p)?;
     let concl = mk_double_negation(alloc, store, p)?;

@@ -33,7 +33,9 @@ pub(crate) fn derive<S: TermStore>(
     requires named { NamedWithin (length (S.nodes store.old)) named.now.entries }
     requires line { IsGoodLine sig.now (S.nodes store.old) line.now }
     ensures kept { Extends (S.nodes store.old) (S.nodes store.new) }
-    ensures step { Gives (S.nodes store.new) result (nameless_step sig.now (statements_at (S.nodes store.old) named.now.entries) (sequents_at (S.nodes store.old) done.now) (rule_at (S.nodes store.old) line.now)) }
+    ensures step { Gives (S.nodes store.new) result
+        (nameless_step sig.now (statements_at (S.nodes store.old) named.now.entries)
+        (sequents_at (S.nodes store.old) done.now) (rule_at (S.nodes store.old) line.now)) }
 {
     match line {
         Line::Assume(p) => assume(alloc, store, sig, *p),

@@ -22,7 +22,8 @@ pub(crate) fn refl<S: TermStore>(
 ) -> Result<Sequent, RuleFault>
     requires { IsTyped sig.now (S.nodes store.old) t }
     ensures kept { Extends (S.nodes store.old) (S.nodes store.new) }
-    ensures step { Gives (S.nodes store.new) result (nameless_refl_gives sig.now (tree_at (S.nodes store.old) t)) }
+    ensures step { Gives (S.nodes store.new) result
+        (nameless_refl_gives sig.now (tree_at (S.nodes store.old) t)) }
 {
     let ty = type_of(alloc, store, sig, t)?;
     let concl = mk_equation(alloc, store, ty, t, t)?;
@@ -38,7 +39,8 @@ pub(crate) fn sym<S: TermStore>(
 ) -> Result<Sequent, RuleFault>
     requires { AreWithin (length (S.nodes store.old)) done.now }
     ensures kept { Extends (S.nodes store.old) (S.nodes store.new) }
-    ensures step { Gives (S.nodes store.new) result (nameless_sym_gives (sequents_at (S.nodes store.old) done.now) i) }
+    ensures step { Gives (S.nodes store.new) result
+        (nameless_sym_gives (sequents_at (S.nodes store.old) done.now) i) }
 {
     let from = line_at(store, done, i)?;
     let sides = equation_of(alloc, store, from.concl)?;
@@ -58,7 +60,8 @@ pub(crate) fn trans<S: TermStore>(
 ) -> Result<Sequent, RuleFault>
     requires { AreWithin (length (S.nodes store.old)) done.now }
     ensures kept { Extends (S.nodes store.old) (S.nodes store.new) }
-    ensures step { Gives (S.nodes store.new) result (nameless_trans_gives (sequents_at (S.nodes store.old) done.now) i j) }
+    ensures step { Gives (S.nodes store.new) result
+        (nameless_trans_gives (sequents_at (S.nodes store.old) done.now) i j) }
 {
     let first = line_at(store, done, i)?;
     let second = line_at(store, done, j)?;
@@ -80,7 +83,8 @@ pub(crate) fn eqmp<S: TermStore>(
     j: usize,
 ) -> Result<Sequent, RuleFault>
     requires { AreWithin (length (S.nodes store.now)) done.now }
-    ensures step { Gives (S.nodes store.now) result (nameless_eqmp_gives (sequents_at (S.nodes store.now) done.now) i j) }
+    ensures step { Gives (S.nodes store.now) result
+        (nameless_eqmp_gives (sequents_at (S.nodes store.now) done.now) i j) }
 {
     let major = line_at(store, done, i)?;
     let minor = line_at(store, done, j)?;
@@ -105,7 +109,8 @@ pub(crate) fn iff<S: TermStore>(
 ) -> Result<Sequent, RuleFault>
     requires { AreWithin (length (S.nodes store.old)) done.now }
     ensures kept { Extends (S.nodes store.old) (S.nodes store.new) }
-    ensures step { Gives (S.nodes store.new) result (nameless_iff_gives (sequents_at (S.nodes store.old) done.now) i j) }
+    ensures step { Gives (S.nodes store.new) result
+        (nameless_iff_gives (sequents_at (S.nodes store.old) done.now) i j) }
 {
     let first = line_at(store, done, i)?;
     let second = line_at(store, done, j)?;

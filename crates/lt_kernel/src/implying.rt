@@ -25,7 +25,9 @@ pub(crate) fn impI<S: TermStore>(
     requires done { AreWithin (length (S.nodes store.old)) done.now }
     requires p { IsTyped sig.now (S.nodes store.old) p }
     ensures kept { Extends (S.nodes store.old) (S.nodes store.new) }
-    ensures step { Gives (S.nodes store.new) result (nameless_impI_gives sig.now (sequents_at (S.nodes store.old) done.now) (tree_at (S.nodes store.old) p) i) }
+    ensures step { Gives (S.nodes store.new) result
+        (nameless_impI_gives sig.now (sequents_at (S.nodes store.old) done.now)
+        (tree_at (S.nodes store.old) p) i) }
 {
     let from = line_at(store, done, i)?;
     check_boolean(alloc, store, sig, p)?;
@@ -43,7 +45,8 @@ pub(crate) fn mp<S: TermStore>(
     j: usize,
 ) -> Result<Sequent, RuleFault>
     requires { AreWithin (length (S.nodes store.now)) done.now }
-    ensures step { Gives (S.nodes store.now) result (nameless_mp_gives (sequents_at (S.nodes store.now) done.now) i j) }
+    ensures step { Gives (S.nodes store.now) result
+        (nameless_mp_gives (sequents_at (S.nodes store.now) done.now) i j) }
 {
     let major = line_at(store, done, i)?;
     let minor = line_at(store, done, j)?;

@@ -19,7 +19,8 @@ impl<S: TermStore> Proof<S> {
         requires by { by < length self.old.nodes }
         ensures keeps { Keeps self.old self.new }
         ensures carries { Carries self.old self.new }
-        ensures builds { Builds self.old.nodes self.new.nodes result (instance_at 0 (tree_at self.old.nodes by) (tree_at self.old.nodes body)) }
+        ensures builds { Builds self.old.nodes self.new.nodes result
+            (instance_at 0 (tree_at self.old.nodes by) (tree_at self.old.nodes body)) }
     {
         let made = instantiate(alloc, &mut self.store, body, by)?;
         Ok(made)
@@ -36,7 +37,8 @@ impl<S: TermStore> Proof<S> {
         requires { t < length self.old.nodes }
         ensures keeps { Keeps self.old self.new }
         ensures carries { Carries self.old self.new }
-        ensures builds { Builds self.old.nodes self.new.nodes result (abstracted 0 name.now ty.now (tree_at self.old.nodes t)) }
+        ensures builds { Builds self.old.nodes self.new.nodes result
+            (abstracted 0 name.now ty.now (tree_at self.old.nodes t)) }
     {
         let made = abstract_free(alloc, &mut self.store, t, name, ty)?;
         Ok(made)
@@ -47,7 +49,8 @@ impl<S: TermStore> Proof<S> {
         requires { t < length self.old.nodes }
         ensures keeps { Keeps self.old self.new }
         ensures carries { Carries self.old self.new }
-        ensures builds { Builds self.old.nodes self.new.nodes result (nameless_instance by.now (tree_at self.old.nodes t)) }
+        ensures builds { Builds self.old.nodes self.new.nodes result
+            (nameless_instance by.now (tree_at self.old.nodes t)) }
     {
         let made = type_instance(alloc, &mut self.store, t, by)?;
         Ok(made)
@@ -58,7 +61,9 @@ impl<S: TermStore> Proof<S> {
         requires { t < length self.old.nodes }
         ensures keeps { Keeps self.old self.new }
         ensures carries { Carries self.old self.new }
-        ensures builds { Builds self.old.nodes self.new.nodes result (nameless_abstraction ty.now (abstracted 0 name.now ty.now (tree_at self.old.nodes t))) }
+        ensures builds { Builds self.old.nodes self.new.nodes result
+            (nameless_abstraction ty.now (abstracted 0 name.now ty.now
+            (tree_at self.old.nodes t))) }
     {
         let body = self.abstract_free(alloc, t, name, ty)?;
         let made = self.mk_lam(alloc, ty.copy(alloc)?, body)?;

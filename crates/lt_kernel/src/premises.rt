@@ -26,7 +26,8 @@ pub(crate) fn line_at<'a, S: TermStore>(
     number: usize,
 ) -> Result<&'a Sequent, RuleFault>
     requires { AreWithin (length (S.nodes store.now)) done.now }
-    ensures finds { Finds (λ s. sequent_at (S.nodes store.now) s.now) result reason.MissingLine (line_at (sequents_at (S.nodes store.now) done.now) number) }
+    ensures finds { Finds (λ s. sequent_at (S.nodes store.now) s.now) result reason.MissingLine
+        (line_at (sequents_at (S.nodes store.now) done.now) number) }
     ensures within { IfOk result (λ s. IsWithin (length (S.nodes store.now)) s.now) }
 {
     match sequent_at(store, done, number) {
@@ -42,8 +43,16 @@ pub(crate) fn equation_of<S: TermStore>(
     t: Id,
 ) -> Result<Equation, RuleFault>
     requires { t < length (S.nodes store.now) }
-    ensures finds { Finds (λ e. (e.ty, tree_at (S.nodes store.now) e.left, tree_at (S.nodes store.now) e.right)) result reason.NotEquation (nameless_as_equation (tree_at (S.nodes store.now) t)) }
-    ensures within { IfOk result (λ e. (e.left < length (S.nodes store.now)) × (e.right < length (S.nodes store.now))) }
+    ensures finds { Finds
+        (λ e. (
+          e.ty,
+          tree_at (S.nodes store.now) e.left,
+          tree_at
+              (S.nodes store.now) e.right,
+        )) result reason.NotEquation
+        (nameless_as_equation (tree_at (S.nodes store.now) t)) }
+    ensures within { IfOk result
+        (λ e. (e.left < length (S.nodes store.now)) × (e.right < length (S.nodes store.now))) }
 {
     match as_equation(alloc, store, t)? {
         Some(sides) => Ok(sides),
@@ -54,8 +63,15 @@ pub(crate) fn equation_of<S: TermStore>(
 /// The sides of an implication. `NotImplication`.
 pub(crate) fn implication_of<S: TermStore>(store: &S, t: Id) -> Result<(Id, Id), RuleFault>
     requires { t < length (S.nodes store.now) }
-    ensures finds { Finds (λ e. (tree_at (S.nodes store.now) e.0, tree_at (S.nodes store.now) e.1)) result reason.NotImplication (nameless_as_implication (tree_at (S.nodes store.now) t)) }
-    ensures within { IfOk result (λ e. (e.0 < length (S.nodes store.now)) × (e.1 < length (S.nodes store.now))) }
+    ensures finds { Finds
+        (λ e. (
+          tree_at (S.nodes store.now) e.0,
+          tree_at
+              (S.nodes store.now) e.1,
+        )) result reason.NotImplication
+        (nameless_as_implication (tree_at (S.nodes store.now) t)) }
+    ensures within { IfOk result
+        (λ e. (e.0 < length (S.nodes store.now)) × (e.1 < length (S.nodes store.now))) }
 {
     match as_implication(store, t) {
         Some(sides) => Ok(sides),
@@ -70,7 +86,9 @@ pub(crate) fn forall_of<S: TermStore>(
     t: Id,
 ) -> Result<Universal, RuleFault>
     requires { t < length (S.nodes store.now) }
-    ensures finds { Finds (λ a. (a.ty, tree_at (S.nodes store.now) a.predicate)) result reason.NotForall (nameless_as_forall (tree_at (S.nodes store.now) t)) }
+    ensures finds { Finds
+        (λ a. (a.ty, tree_at (S.nodes store.now) a.predicate)) result reason.NotForall
+        (nameless_as_forall (tree_at (S.nodes store.now) t)) }
     ensures within { IfOk result (λ a. a.predicate < length (S.nodes store.now)) }
 {
     match as_forall(alloc, store, t)? {
@@ -83,7 +101,8 @@ pub(crate) fn forall_of<S: TermStore>(
 pub(crate) fn meet<S: TermStore>(alloc: Global, store: &S, s: Id, t: Id) -> Result<(), RuleFault>
     requires s { s < length (S.nodes store.now) }
     requires t { t < length (S.nodes store.now) }
-    ensures { Tests result reason.MiddleDiffers (same_nameless (tree_at (S.nodes store.now) s) (tree_at (S.nodes store.now) t)) }
+    ensures { Tests result reason.MiddleDiffers
+        (same_nameless (tree_at (S.nodes store.now) s) (tree_at (S.nodes store.now) t)) }
 {
     if !are_same(alloc, store, s, t)? {
         return Err(RuleFault::Bad(Reason::MiddleDiffers));
@@ -99,7 +118,8 @@ pub(crate) fn check_boolean<S: TermStore>(
     p: Id,
 ) -> Result<(), RuleFault>
     requires { IsTyped sig.now (S.nodes store.now) p }
-    ensures { Tests result reason.NotBool (nameless_has_type sig.now (tree_at (S.nodes store.now) p) bool) }
+    ensures { Tests result reason.NotBool
+        (nameless_has_type sig.now (tree_at (S.nodes store.now) p) bool) }
 {
     if !is_boolean(alloc, store, sig, p)? {
         return Err(RuleFault::Bad(Reason::NotBool));
@@ -116,7 +136,8 @@ pub(crate) fn check_type<S: TermStore>(
     ty: &Ty,
 ) -> Result<(), RuleFault>
     requires { IsTyped sig.now (S.nodes store.now) t }
-    ensures { Tests result reason.TypeDiffers (nameless_has_type sig.now (tree_at (S.nodes store.now) t) ty.now) }
+    ensures { Tests result reason.TypeDiffers
+        (nameless_has_type sig.now (tree_at (S.nodes store.now) t) ty.now) }
 {
     if !has_type(alloc, store, sig, t, ty)? {
         return Err(RuleFault::Bad(Reason::TypeDiffers));
@@ -136,7 +157,8 @@ pub(crate) fn check_absent<S: TermStore>(
 ) -> Result<(), RuleFault>
     requires { AllBelow (length (S.nodes store.old)) hyps.now }
     ensures kept { Extends (S.nodes store.old) (S.nodes store.new) }
-    ensures tests { Tests result reason.VariableInHypothesis (not (list_any (nameless_has_free x.now ty.now) (trees (S.nodes store.old) hyps.now))) }
+    ensures tests { Tests result reason.VariableInHypothesis
+        (not (list_any (nameless_has_free x.now ty.now) (trees (S.nodes store.old) hyps.now))) }
 {
     if has_free(alloc, store, hyps.as_slice(), x, ty)? {
         return Err(RuleFault::Bad(Reason::VariableInHypothesis));

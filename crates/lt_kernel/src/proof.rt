@@ -116,7 +116,8 @@ impl<S: TermStore> Proof<S> {
 
     /// The sequent of the line with a number; None where there is no such line.
     pub fn sequent(&self, number: usize) -> Option<&Sequent>
-        ensures is { option_copied result ≡ option_map (λ s. s.sequent) (line_at self.now.steps number) }
+        ensures is { option_copied result ≡ option_map (λ s. s.sequent)
+            (line_at self.now.steps number) }
         ensures within { IfSome result (λ s. IsWithin (length self.now.nodes) s.now) }
     {
         match step_at(self.steps.as_slice(), number) {
@@ -149,7 +150,8 @@ impl<S: TermStore> Proof<S> {
     pub fn conclusion(&self, number: usize) -> Id
         requires { is_some (line_at (sequents self.now) number) ≡ true }
         ensures within { result < length self.now.nodes }
-        ensures is { option_map (λ s. s.concl) (line_at (sequents self.now) number) ≡ Some (tree_at self.now.nodes result) }
+        ensures is { option_map (λ s. s.concl) (line_at (sequents self.now) number) ≡ Some
+            (tree_at self.now.nodes result) }
     {
         match self.sequent(number) {
             Some(sequent) => sequent.concl,
@@ -219,7 +221,8 @@ impl<S: TermStore> Proof<S> {
 
     /// Drops the types, constants and named statements that came after the mark, and all lines.
     pub fn back(&mut self, mark: ProofMark)
-        ensures { self.new ≡ record self.old { signature = cut mark.sig.types mark.sig.constants self.old.signature; named = take mark.statements self.old.named; steps = [] } }
+        ensures { self.new
+            ≡ record self.old { signature = cut mark.sig.types mark.sig.constants self.old.signature; named = take mark.statements self.old.named; steps = [] } }
     {
         self.signature.back(mark.sig);
         self.named.truncate(mark.statements);
@@ -241,7 +244,8 @@ fn add_step(
     line: &Line,
     sequent: Sequent,
 ) -> Result<usize, Memory>
-    ensures ok { OnOk result (steps.new.items ≡ steps.old.items ++ record { line = line.now; sequent = sequent } ∷ []) }
+    ensures ok { OnOk result
+        (steps.new.items ≡ steps.old.items ++ record { line = line.now; sequent = sequent } ∷ []) }
     ensures number { IfOk result (λ n. n ≡ length steps.new.items) }
     ensures err { OnErr result (steps.new.items ≡ steps.old.items) }
 {

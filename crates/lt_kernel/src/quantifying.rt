@@ -24,7 +24,8 @@ pub(crate) fn allI<S: TermStore>(
 ) -> Result<Sequent, RuleFault>
     requires { AreWithin (length (S.nodes store.old)) done.now }
     ensures kept { Extends (S.nodes store.old) (S.nodes store.new) }
-    ensures step { Gives (S.nodes store.new) result (nameless_allI_gives (sequents_at (S.nodes store.old) done.now) x.now ty.now i) }
+    ensures step { Gives (S.nodes store.new) result
+        (nameless_allI_gives (sequents_at (S.nodes store.old) done.now) x.now ty.now i) }
 {
     let from = line_at(store, done, i)?;
     // A hypothesis on x speaks of one x, and the conclusion would of each.
@@ -46,7 +47,9 @@ pub(crate) fn allE<S: TermStore>(
     requires done { AreWithin (length (S.nodes store.old)) done.now }
     requires t { IsTyped sig.now (S.nodes store.old) t }
     ensures kept { Extends (S.nodes store.old) (S.nodes store.new) }
-    ensures step { Gives (S.nodes store.new) result (nameless_allE_gives sig.now (sequents_at (S.nodes store.old) done.now) (tree_at (S.nodes store.old) t) i) }
+    ensures step { Gives (S.nodes store.new) result
+        (nameless_allE_gives sig.now (sequents_at (S.nodes store.old) done.now)
+        (tree_at (S.nodes store.old) t) i) }
 {
     let from = line_at(store, done, i)?;
     let all = forall_of(alloc, store, from.concl)?;

@@ -28,7 +28,9 @@ pub(crate) fn inst<S: TermStore>(
     requires done { AreWithin (length (S.nodes store.old)) done.now }
     requires t { IsTyped sig.now (S.nodes store.old) t }
     ensures kept { Extends (S.nodes store.old) (S.nodes store.new) }
-    ensures step { Gives (S.nodes store.new) result (nameless_inst_gives sig.now (sequents_at (S.nodes store.old) done.now) x.now ty.now (tree_at (S.nodes store.old) t) i) }
+    ensures step { Gives (S.nodes store.new) result
+        (nameless_inst_gives sig.now (sequents_at (S.nodes store.old) done.now) x.now ty.now
+        (tree_at (S.nodes store.old) t) i) }
 {
     let from = line_at(store, done, i)?;
     // A term of another type would leave an untyped sequent.
@@ -50,7 +52,8 @@ pub(crate) fn tinst<S: TermStore>(
 ) -> Result<Sequent, RuleFault>
     requires { AreWithin (length (S.nodes store.old)) done.now }
     ensures kept { Extends (S.nodes store.old) (S.nodes store.new) }
-    ensures step { Gives (S.nodes store.new) result (nameless_tinst_gives (sequents_at (S.nodes store.old) done.now) a.now ty.now i) }
+    ensures step { Gives (S.nodes store.new) result
+        (nameless_tinst_gives (sequents_at (S.nodes store.old) done.now) a.now ty.now i) }
 {
     let from = line_at(store, done, i)?;
     let by = one_pair(alloc, a, ty)?;
@@ -71,7 +74,9 @@ fn replaced<S: TermStore>(
 ) -> Result<Id, Memory>
     requires t { t < length (S.nodes store.old) }
     requires by { by < length (S.nodes store.old) }
-    ensures { Builds (S.nodes store.old) (S.nodes store.new) result (nameless_replaced x.now ty.now (tree_at (S.nodes store.old) by) (tree_at (S.nodes store.old) t)) }
+    ensures { Builds (S.nodes store.old) (S.nodes store.new) result
+        (nameless_replaced x.now ty.now (tree_at (S.nodes store.old) by)
+        (tree_at (S.nodes store.old) t)) }
 {
     let ts = one(alloc, t)?;
     let made = replace_free(alloc, store, ts.as_slice(), x, ty, by)?;

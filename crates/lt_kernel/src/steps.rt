@@ -27,7 +27,8 @@ pub(crate) fn sequent_at<'a, S: TermStore>(
     number: usize,
 ) -> Option<&'a Sequent>
     requires { AreWithin (length (S.nodes _store.now)) done.now }
-    ensures is { option_map (sequent_at (S.nodes _store.now)) (option_copied result) ≡ line_at (sequents_at (S.nodes _store.now) done.now) number }
+    ensures is { option_map (sequent_at (S.nodes _store.now)) (option_copied result) ≡ line_at
+        (sequents_at (S.nodes _store.now) done.now) number }
     ensures within { IfSome result (λ s. IsWithin (length (S.nodes _store.now)) s.now) }
 {
     match step_at(done, number) {

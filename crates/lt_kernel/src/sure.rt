@@ -18,9 +18,12 @@ use std::alloc::Global;
 /// `p |- p`.
 pub fn assume<S: TermStore>(alloc: Global, proof: &mut Proof<S>, p: Id) -> Result<usize, Memory>
     requires p { IsTyped proof.old.signature proof.old.nodes p }
-    requires sure { is_ok (nameless_assume_gives proof.old.signature (tree_at proof.old.nodes p)) ≡ true }
+    requires sure { is_ok (nameless_assume_gives proof.old.signature (tree_at proof.old.nodes p))
+        ≡ true }
     ensures carries { Carries proof.old proof.new }
-    ensures line { IfOk result (λ n. IsGiven proof.new n (nameless_assume_gives proof.old.signature (tree_at proof.old.nodes p))) }
+    ensures line { IfOk result
+        (λ n. IsGiven proof.new n (nameless_assume_gives proof.old.signature
+        (tree_at proof.old.nodes p))) }
 {
     match proof.assume(alloc, p) {
         Ok(number) => Ok(number),
@@ -36,9 +39,13 @@ pub fn weaken<S: TermStore>(
     i: usize,
 ) -> Result<usize, Memory>
     requires p { IsTyped proof.old.signature proof.old.nodes p }
-    requires sure { is_ok (nameless_weaken_gives proof.old.signature (sequents proof.old) (tree_at proof.old.nodes p) i) ≡ true }
+    requires sure { is_ok
+        (nameless_weaken_gives proof.old.signature (sequents proof.old)
+        (tree_at proof.old.nodes p) i) ≡ true }
     ensures carries { Carries proof.old proof.new }
-    ensures line { IfOk result (λ n. IsGiven proof.new n (nameless_weaken_gives proof.old.signature (sequents proof.old) (tree_at proof.old.nodes p) i)) }
+    ensures line { IfOk result
+        (λ n. IsGiven proof.new n (nameless_weaken_gives proof.old.signature (sequents proof.old)
+        (tree_at proof.old.nodes p) i)) }
 {
     match proof.weaken(alloc, p, i) {
         Ok(number) => Ok(number),
@@ -50,7 +57,9 @@ pub fn weaken<S: TermStore>(
 pub fn refl<S: TermStore>(alloc: Global, proof: &mut Proof<S>, t: Id) -> Result<usize, Memory>
     requires { IsTyped proof.old.signature proof.old.nodes t }
     ensures carries { Carries proof.old proof.new }
-    ensures line { IfOk result (λ n. IsGiven proof.new n (nameless_refl_gives proof.old.signature (tree_at proof.old.nodes t))) }
+    ensures line { IfOk result
+        (λ n. IsGiven proof.new n (nameless_refl_gives proof.old.signature
+        (tree_at proof.old.nodes t))) }
 {
     match proof.refl(alloc, t) {
         Ok(number) => Ok(number),
@@ -62,7 +71,8 @@ pub fn refl<S: TermStore>(alloc: Global, proof: &mut Proof<S>, t: Id) -> Result<
 pub fn sym<S: TermStore>(alloc: Global, proof: &mut Proof<S>, i: usize) -> Result<usize, Memory>
     requires sure { is_ok (nameless_sym_gives (sequents proof.old) i) ≡ true }
     ensures carries { Carries proof.old proof.new }
-    ensures line { IfOk result (λ n. IsGiven proof.new n (nameless_sym_gives (sequents proof.old) i)) }
+    ensures line { IfOk result
+        (λ n. IsGiven proof.new n (nameless_sym_gives (sequents proof.old) i)) }
 {
     match proof.sym(alloc, i) {
         Ok(number) => Ok(number),
@@ -79,7 +89,8 @@ pub fn trans<S: TermStore>(
 ) -> Result<usize, Memory>
     requires sure { is_ok (nameless_trans_gives (sequents proof.old) i j) ≡ true }
     ensures carries { Carries proof.old proof.new }
-    ensures line { IfOk result (λ n. IsGiven proof.new n (nameless_trans_gives (sequents proof.old) i j)) }
+    ensures line { IfOk result
+        (λ n. IsGiven proof.new n (nameless_trans_gives (sequents proof.old) i j)) }
 {
     match proof.trans(alloc, i, j) {
         Ok(number) => Ok(number),
@@ -96,7 +107,8 @@ pub fn cong<S: TermStore>(
 ) -> Result<usize, Memory>
     requires sure { is_ok (nameless_cong_gives (sequents proof.old) i j) ≡ true }
     ensures carries { Carries proof.old proof.new }
-    ensures line { IfOk result (λ n. IsGiven proof.new n (nameless_cong_gives (sequents proof.old) i j)) }
+    ensures line { IfOk result
+        (λ n. IsGiven proof.new n (nameless_cong_gives (sequents proof.old) i j)) }
 {
     match proof.cong(alloc, i, j) {
         Ok(number) => Ok(number),
@@ -115,7 +127,8 @@ pub fn abs<S: TermStore>(
     requires ty { type_fault proof.old.signature ty.now ≡ None }
     requires sure { is_ok (nameless_abs_gives (sequents proof.old) x.now ty.now i) ≡ true }
     ensures carries { Carries proof.old proof.new }
-    ensures line { IfOk result (λ n. IsGiven proof.new n (nameless_abs_gives (sequents proof.old) x.now ty.now i)) }
+    ensures line { IfOk result
+        (λ n. IsGiven proof.new n (nameless_abs_gives (sequents proof.old) x.now ty.now i)) }
 {
     let x = x.copy(alloc)?;
     let ty = ty.copy(alloc)?;
@@ -128,9 +141,12 @@ pub fn abs<S: TermStore>(
 /// `|- t = b`, the body of a redex opened.
 pub fn beta<S: TermStore>(alloc: Global, proof: &mut Proof<S>, t: Id) -> Result<usize, Memory>
     requires t { IsTyped proof.old.signature proof.old.nodes t }
-    requires sure { is_ok (nameless_beta_gives proof.old.signature (tree_at proof.old.nodes t)) ≡ true }
+    requires sure { is_ok (nameless_beta_gives proof.old.signature (tree_at proof.old.nodes t))
+        ≡ true }
     ensures carries { Carries proof.old proof.new }
-    ensures line { IfOk result (λ n. IsGiven proof.new n (nameless_beta_gives proof.old.signature (tree_at proof.old.nodes t))) }
+    ensures line { IfOk result
+        (λ n. IsGiven proof.new n (nameless_beta_gives proof.old.signature
+        (tree_at proof.old.nodes t))) }
 {
     match proof.beta(alloc, t) {
         Ok(number) => Ok(number),
@@ -141,9 +157,12 @@ pub fn beta<S: TermStore>(alloc: Global, proof: &mut Proof<S>, t: Id) -> Result<
 /// `|- t = f`, where `t` is `\x. f x`.
 pub fn eta<S: TermStore>(alloc: Global, proof: &mut Proof<S>, t: Id) -> Result<usize, Memory>
     requires t { IsTyped proof.old.signature proof.old.nodes t }
-    requires sure { is_ok (nameless_eta_gives proof.old.signature (tree_at proof.old.nodes t)) ≡ true }
+    requires sure { is_ok (nameless_eta_gives proof.old.signature (tree_at proof.old.nodes t))
+        ≡ true }
     ensures carries { Carries proof.old proof.new }
-    ensures line { IfOk result (λ n. IsGiven proof.new n (nameless_eta_gives proof.old.signature (tree_at proof.old.nodes t))) }
+    ensures line { IfOk result
+        (λ n. IsGiven proof.new n (nameless_eta_gives proof.old.signature
+        (tree_at proof.old.nodes t))) }
 {
     match proof.eta(alloc, t) {
         Ok(number) => Ok(number),
@@ -160,7 +179,8 @@ pub fn eqmp<S: TermStore>(
 ) -> Result<usize, Memory>
     requires sure { is_ok (nameless_eqmp_gives (sequents proof.old) i j) ≡ true }
     ensures carries { Carries proof.old proof.new }
-    ensures line { IfOk result (λ n. IsGiven proof.new n (nameless_eqmp_gives (sequents proof.old) i j)) }
+    ensures line { IfOk result
+        (λ n. IsGiven proof.new n (nameless_eqmp_gives (sequents proof.old) i j)) }
 {
     match proof.eqmp(alloc, i, j) {
         Ok(number) => Ok(number),
@@ -176,9 +196,13 @@ pub fn impI<S: TermStore>(
     i: usize,
 ) -> Result<usize, Memory>
     requires p { IsTyped proof.old.signature proof.old.nodes p }
-    requires sure { is_ok (nameless_impI_gives proof.old.signature (sequents proof.old) (tree_at proof.old.nodes p) i) ≡ true }
+    requires sure { is_ok
+        (nameless_impI_gives proof.old.signature (sequents proof.old) (tree_at proof.old.nodes p) i)
+        ≡ true }
     ensures carries { Carries proof.old proof.new }
-    ensures line { IfOk result (λ n. IsGiven proof.new n (nameless_impI_gives proof.old.signature (sequents proof.old) (tree_at proof.old.nodes p) i)) }
+    ensures line { IfOk result
+        (λ n. IsGiven proof.new n (nameless_impI_gives proof.old.signature (sequents proof.old)
+        (tree_at proof.old.nodes p) i)) }
 {
     match proof.impI(alloc, p, i) {
         Ok(number) => Ok(number),
@@ -195,7 +219,8 @@ pub fn mp<S: TermStore>(
 ) -> Result<usize, Memory>
     requires sure { is_ok (nameless_mp_gives (sequents proof.old) i j) ≡ true }
     ensures carries { Carries proof.old proof.new }
-    ensures line { IfOk result (λ n. IsGiven proof.new n (nameless_mp_gives (sequents proof.old) i j)) }
+    ensures line { IfOk result
+        (λ n. IsGiven proof.new n (nameless_mp_gives (sequents proof.old) i j)) }
 {
     match proof.mp(alloc, i, j) {
         Ok(number) => Ok(number),
@@ -214,7 +239,8 @@ pub fn allI<S: TermStore>(
     requires ty { type_fault proof.old.signature ty.now ≡ None }
     requires sure { is_ok (nameless_allI_gives (sequents proof.old) x.now ty.now i) ≡ true }
     ensures carries { Carries proof.old proof.new }
-    ensures line { IfOk result (λ n. IsGiven proof.new n (nameless_allI_gives (sequents proof.old) x.now ty.now i)) }
+    ensures line { IfOk result
+        (λ n. IsGiven proof.new n (nameless_allI_gives (sequents proof.old) x.now ty.now i)) }
 {
     let x = x.copy(alloc)?;
     let ty = ty.copy(alloc)?;
@@ -232,9 +258,13 @@ pub fn allE<S: TermStore>(
     i: usize,
 ) -> Result<usize, Memory>
     requires t { IsTyped proof.old.signature proof.old.nodes t }
-    requires sure { is_ok (nameless_allE_gives proof.old.signature (sequents proof.old) (tree_at proof.old.nodes t) i) ≡ true }
+    requires sure { is_ok
+        (nameless_allE_gives proof.old.signature (sequents proof.old) (tree_at proof.old.nodes t) i)
+        ≡ true }
     ensures carries { Carries proof.old proof.new }
-    ensures line { IfOk result (λ n. IsGiven proof.new n (nameless_allE_gives proof.old.signature (sequents proof.old) (tree_at proof.old.nodes t) i)) }
+    ensures line { IfOk result
+        (λ n. IsGiven proof.new n (nameless_allE_gives proof.old.signature (sequents proof.old)
+        (tree_at proof.old.nodes t) i)) }
 {
     match proof.allE(alloc, t, i) {
         Ok(number) => Ok(number),
@@ -251,7 +281,8 @@ pub fn iff<S: TermStore>(
 ) -> Result<usize, Memory>
     requires sure { is_ok (nameless_iff_gives (sequents proof.old) i j) ≡ true }
     ensures carries { Carries proof.old proof.new }
-    ensures line { IfOk result (λ n. IsGiven proof.new n (nameless_iff_gives (sequents proof.old) i j)) }
+    ensures line { IfOk result
+        (λ n. IsGiven proof.new n (nameless_iff_gives (sequents proof.old) i j)) }
 {
     match proof.iff(alloc, i, j) {
         Ok(number) => Ok(number),
@@ -270,9 +301,13 @@ pub fn inst<S: TermStore>(
 ) -> Result<usize, Memory>
     requires ty { type_fault proof.old.signature ty.now ≡ None }
     requires t { IsTyped proof.old.signature proof.old.nodes t }
-    requires sure { is_ok (nameless_inst_gives proof.old.signature (sequents proof.old) x.now ty.now (tree_at proof.old.nodes t) i) ≡ true }
+    requires sure { is_ok
+        (nameless_inst_gives proof.old.signature (sequents proof.old) x.now ty.now
+        (tree_at proof.old.nodes t) i) ≡ true }
     ensures carries { Carries proof.old proof.new }
-    ensures line { IfOk result (λ n. IsGiven proof.new n (nameless_inst_gives proof.old.signature (sequents proof.old) x.now ty.now (tree_at proof.old.nodes t) i)) }
+    ensures line { IfOk result
+        (λ n. IsGiven proof.new n (nameless_inst_gives proof.old.signature
+        (sequents proof.old) x.now ty.now (tree_at proof.old.nodes t) i)) }
 {
     let x = x.copy(alloc)?;
     let ty = ty.copy(alloc)?;
@@ -293,7 +328,8 @@ pub fn tinst<S: TermStore>(
     requires ty { type_fault proof.old.signature ty.now ≡ None }
     requires sure { is_ok (nameless_tinst_gives (sequents proof.old) a.now ty.now i) ≡ true }
     ensures carries { Carries proof.old proof.new }
-    ensures line { IfOk result (λ n. IsGiven proof.new n (nameless_tinst_gives (sequents proof.old) a.now ty.now i)) }
+    ensures line { IfOk result
+        (λ n. IsGiven proof.new n (nameless_tinst_gives (sequents proof.old) a.now ty.now i)) }
 {
     let a = a.copy(alloc)?;
     let ty = ty.copy(alloc)?;
@@ -306,9 +342,12 @@ pub fn tinst<S: TermStore>(
 /// `|- all x. p x --> p (eps p)`.
 pub fn select<S: TermStore>(alloc: Global, proof: &mut Proof<S>, p: Id) -> Result<usize, Memory>
     requires p { IsTyped proof.old.signature proof.old.nodes p }
-    requires sure { is_ok (nameless_select_gives proof.old.signature (tree_at proof.old.nodes p)) ≡ true }
+    requires sure { is_ok (nameless_select_gives proof.old.signature (tree_at proof.old.nodes p))
+        ≡ true }
     ensures carries { Carries proof.old proof.new }
-    ensures line { IfOk result (λ n. IsGiven proof.new n (nameless_select_gives proof.old.signature (tree_at proof.old.nodes p))) }
+    ensures line { IfOk result
+        (λ n. IsGiven proof.new n (nameless_select_gives proof.old.signature
+        (tree_at proof.old.nodes p))) }
 {
     match proof.select(alloc, p) {
         Ok(number) => Ok(number),
@@ -319,9 +358,12 @@ pub fn select<S: TermStore>(alloc: Global, proof: &mut Proof<S>, p: Id) -> Resul
 /// `|- ((p --> F) --> F) --> p`.
 pub fn ccontr<S: TermStore>(alloc: Global, proof: &mut Proof<S>, p: Id) -> Result<usize, Memory>
     requires p { IsTyped proof.old.signature proof.old.nodes p }
-    requires sure { is_ok (nameless_ccontr_gives proof.old.signature (tree_at proof.old.nodes p)) ≡ true }
+    requires sure { is_ok (nameless_ccontr_gives proof.old.signature (tree_at proof.old.nodes p))
+        ≡ true }
     ensures carries { Carries proof.old proof.new }
-    ensures line { IfOk result (λ n. IsGiven proof.new n (nameless_ccontr_gives proof.old.signature (tree_at proof.old.nodes p))) }
+    ensures line { IfOk result
+        (λ n. IsGiven proof.new n (nameless_ccontr_gives proof.old.signature
+        (tree_at proof.old.nodes p))) }
 {
     match proof.ccontr(alloc, p) {
         Ok(number) => Ok(number),
@@ -333,7 +375,8 @@ pub fn ccontr<S: TermStore>(alloc: Global, proof: &mut Proof<S>, p: Id) -> Resul
 pub fn thm<S: TermStore>(alloc: Global, proof: &mut Proof<S>, label: &Name) -> Result<usize, Memory>
     requires sure { is_ok (nameless_thm_gives (statements proof.old) label.now) ≡ true }
     ensures carries { Carries proof.old proof.new }
-    ensures line { IfOk result (λ n. IsGiven proof.new n (nameless_thm_gives (statements proof.old) label.now)) }
+    ensures line { IfOk result
+        (λ n. IsGiven proof.new n (nameless_thm_gives (statements proof.old) label.now)) }
 {
     let label = label.copy(alloc)?;
     match proof.thm(alloc, label) {
