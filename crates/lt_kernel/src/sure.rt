@@ -69,7 +69,7 @@ pub fn refl<S: TermStore>(alloc: Global, proof: &mut Proof<S>, t: Id) -> Result<
 
 /// From `H |- s = t`: `H |- t = s`.
 pub fn sym<S: TermStore>(alloc: Global, proof: &mut Proof<S>, i: usize) -> Result<usize, Memory>
-    requires sure { is_ok (nameless_sym_gives (sequents proof.old) i) ≡ true }
+    requires { is_ok (nameless_sym_gives (sequents proof.old) i) ≡ true }
     ensures carries { Carries proof.old proof.new }
     ensures line { IfOk result
         (λ n. IsGiven proof.new n (nameless_sym_gives (sequents proof.old) i)) }
@@ -87,7 +87,7 @@ pub fn trans<S: TermStore>(
     i: usize,
     j: usize,
 ) -> Result<usize, Memory>
-    requires sure { is_ok (nameless_trans_gives (sequents proof.old) i j) ≡ true }
+    requires { is_ok (nameless_trans_gives (sequents proof.old) i j) ≡ true }
     ensures carries { Carries proof.old proof.new }
     ensures line { IfOk result
         (λ n. IsGiven proof.new n (nameless_trans_gives (sequents proof.old) i j)) }
@@ -105,7 +105,7 @@ pub fn cong<S: TermStore>(
     i: usize,
     j: usize,
 ) -> Result<usize, Memory>
-    requires sure { is_ok (nameless_cong_gives (sequents proof.old) i j) ≡ true }
+    requires { is_ok (nameless_cong_gives (sequents proof.old) i j) ≡ true }
     ensures carries { Carries proof.old proof.new }
     ensures line { IfOk result
         (λ n. IsGiven proof.new n (nameless_cong_gives (sequents proof.old) i j)) }
@@ -177,7 +177,7 @@ pub fn eqmp<S: TermStore>(
     i: usize,
     j: usize,
 ) -> Result<usize, Memory>
-    requires sure { is_ok (nameless_eqmp_gives (sequents proof.old) i j) ≡ true }
+    requires { is_ok (nameless_eqmp_gives (sequents proof.old) i j) ≡ true }
     ensures carries { Carries proof.old proof.new }
     ensures line { IfOk result
         (λ n. IsGiven proof.new n (nameless_eqmp_gives (sequents proof.old) i j)) }
@@ -217,7 +217,7 @@ pub fn mp<S: TermStore>(
     i: usize,
     j: usize,
 ) -> Result<usize, Memory>
-    requires sure { is_ok (nameless_mp_gives (sequents proof.old) i j) ≡ true }
+    requires { is_ok (nameless_mp_gives (sequents proof.old) i j) ≡ true }
     ensures carries { Carries proof.old proof.new }
     ensures line { IfOk result
         (λ n. IsGiven proof.new n (nameless_mp_gives (sequents proof.old) i j)) }
@@ -279,7 +279,7 @@ pub fn iff<S: TermStore>(
     i: usize,
     j: usize,
 ) -> Result<usize, Memory>
-    requires sure { is_ok (nameless_iff_gives (sequents proof.old) i j) ≡ true }
+    requires { is_ok (nameless_iff_gives (sequents proof.old) i j) ≡ true }
     ensures carries { Carries proof.old proof.new }
     ensures line { IfOk result
         (λ n. IsGiven proof.new n (nameless_iff_gives (sequents proof.old) i j)) }
@@ -373,7 +373,7 @@ pub fn ccontr<S: TermStore>(alloc: Global, proof: &mut Proof<S>, p: Id) -> Resul
 
 /// `|-` the statement of the label.
 pub fn thm<S: TermStore>(alloc: Global, proof: &mut Proof<S>, label: &Name) -> Result<usize, Memory>
-    requires sure { is_ok (nameless_thm_gives (statements proof.old) label.now) ≡ true }
+    requires { is_ok (nameless_thm_gives (statements proof.old) label.now) ≡ true }
     ensures carries { Carries proof.old proof.new }
     ensures line { IfOk result
         (λ n. IsGiven proof.new n (nameless_thm_gives (statements proof.old) label.now)) }
