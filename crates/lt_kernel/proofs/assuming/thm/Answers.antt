@@ -8,16 +8,16 @@ use Rattle.lt_kernel.proofs.Outcomes.{gives-alone}
 use Rattle.lt_kernel.proofs.NamedIds.{found-statement, found-within}
 use Rattle.lt_kernel.proofs.assuming.thm.Goals as goal
 
-pub returns-in_default-clause-step : goal.returns-in_default-clause-step
-returns-in_default-clause-step g c =
+pub returns-in_default : goal.returns-in_default
+returns-in_default g c =
     let ns = g.S.TermStore.nodes c.args._store.now in
     let at : found c.args.label.now c.args.named.now.entries ≡ None = sym (looked_up c.args.label.now c.args.named.now.entries) ∙ sym c.get.ensures.value ∙ sym c.copied.ensures ∙ c.in_default.is in
-    missing-on _ _ _ (found-statement ns c.args.label.now c.args.named.now.entries ∙ ap (option_map (tree_at ns)) at)
+    record { step = missing-on _ _ _ (found-statement ns c.args.label.now c.args.named.now.entries ∙ ap (option_map (tree_at ns)) at) }
 
-pub returns-clause-step : goal.returns-clause-step
-returns-clause-step g c =
+pub returns : goal.returns
+returns g c =
     let ns = g.S.TermStore.nodes c.args._store.now in
     let at : found c.args.label.now c.args.named.now.entries ≡ Some c.in-Some.concl = sym (looked_up c.args.label.now c.args.named.now.entries) ∙ sym c.get.ensures.value ∙ sym c.copied.ensures ∙ c.in-Some.is in
-    gives-alone ns _ c.in-Some.concl _ _ c.without_hyps.ensures
-    (found-on _ _ _ _ (found-statement ns c.args.label.now c.args.named.now.entries ∙ ap (option_map (tree_at ns)) at))
-    (found-within _ c.args.label.now c.args.named.now.entries _ c.requires at) refl
+    record { step = gives-alone ns _ c.in-Some.concl _ _ c.without_hyps.ensures
+        (found-on _ _ _ _ (found-statement ns c.args.label.now c.args.named.now.entries ∙ ap (option_map (tree_at ns)) at))
+        (found-within _ c.args.label.now c.args.named.now.entries _ c.requires at) refl }
