@@ -3,7 +3,8 @@ use Rattle.std.proofs.Common.{◌≡◌, ◌∙◌, ◌&&◌, [], ◌∷◌, Boo
 use Rattle.std.specs.Prelude.{codes}
 use Rattle.lt_definitions.specs.Types.{Chars, TypeTree, TypeMap, Matches, type_variable, type_constructor, no_types, type_and, bool, fun, same_name, same_type, type_instance}
 use Rattle.lt_definitions.specs.Typing.{mismatch}
-use Rattle.lt_definitions.specs.Rules.{joined_type, predicate_over, ok_of}
+use Rattle.std.specs.Result.{result_ok}
+use Rattle.lt_definitions.specs.Rules.{joined_type, predicate_over}
 use Rattle.lt_definitions.proofs.SameNames.{name-true}
 use Rattle.lt_types.specs.FunctionTypes.{function_parts}
 
@@ -46,11 +47,11 @@ joined-parts (type_constructor c (type_and from no_types)) a = refl
 joined-parts (type_constructor c (type_and from (type_and to (type_and t ts)))) a = refl
 joined-parts (type_constructor c (type_and from (type_and to no_types))) a = by (same_name c (codes "fun"))
   where
-    taken : (d : Bool) → (if d then Some to else None) ≡ ok_of (if d then Ok to else Err (mismatch (type_constructor c (type_and from (type_and to no_types))) a))
+    taken : (d : Bool) → (if d then Some to else None) ≡ result_ok (if d then Ok to else Err (mismatch (type_constructor c (type_and from (type_and to no_types))) a))
     taken true = refl
     taken false = refl
 
-    by : (b : Bool) → joined_of (if b then Some (from, to) else None) a ≡ ok_of (if b && same_type from a then Ok to else Err (mismatch (type_constructor c (type_and from (type_and to no_types))) a))
+    by : (b : Bool) → joined_of (if b then Some (from, to) else None) a ≡ result_ok (if b && same_type from a then Ok to else Err (mismatch (type_constructor c (type_and from (type_and to no_types))) a))
     by true = taken (same_type from a)
     by false = refl
 

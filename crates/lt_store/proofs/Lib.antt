@@ -7,6 +7,7 @@ pub mod TaskLemmas
 pub mod Lists
 pub mod LongestNames
 pub mod StoredTerms
+pub mod TypedLemmas
 pub mod TypeNumberLemmas
 pub mod TypeTaskLemmas
 pub mod BinderNames

@@ -219,7 +219,11 @@ pub(crate) fn measured<S: TermStore>(store: &S, memo: &Memo, id: Id, depth: usiz
     ensures { result ≡ longest_free (tree_at (S.nodes store.now) id) }
 {
     match store.view(id) {
-        View::App(f, a) => kept(memo, f, depth).max(kept(memo, a, depth)),
+        View::App(f, a) => {
+            let function = kept(memo, f, depth);
+            let argument = kept(memo, a, depth);
+            function.max(argument)
+        }
         View::Lam(_, body) => kept(memo, body, depth),
         View::Free(name, _) => name.len(),
         View::Bound(_) | View::Const(_, _) => 0,

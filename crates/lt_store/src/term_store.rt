@@ -12,8 +12,8 @@ use std::alloc::Global;
 /// A store of terms, which are told by their ids.
 ///
 /// An id stands for a term without binder names, which is one form of all alpha-equal terms.
-/// What an id stands for never changes. Each `mk_*` answers an id of what it was given, or want of memory;
-/// the nodes that were there stay either way.
+/// What an id stands for never changes. Each `mk_*` answers an id of what it was given, or that it
+/// is out of memory; the nodes that were there stay either way.
 pub trait TermStore: Drop {
     /// The nodes, each behind its children; the place of a node is its id.
     ghost nodes: { Self → List Node };

@@ -8,7 +8,7 @@ use Rattle.lt_nameless.specs.NamelessRules.{nameless_fault}
 use Rattle.lt_nameless.proofs.Typings.{typed-has}
 use Rattle.lt_nameless.proofs.ClosedForms.{typed_is_whole}
 use Rattle.lt_nameless.proofs.NamelessTyping.{typed-nameless}
-use Rattle.lt_definitions.specs.Derivations.{fault_of}
+use Rattle.std.specs.Result.{result_err}
 use Rattle.lt_store.specs.declared.node.Node.{Node}
 use Rattle.lt_store.specs.Trees.{tree_at}
 use Rattle.lt_store.specs.Typed.{IsTyped}
@@ -22,5 +22,5 @@ pub typed_there : (sig : Signature) (ns : List Node) (id : ℕ) (t : TermTree) (
     → id < length ns → tree_at ns id ≡ nameless [] t → IsTyped sig ns id
 typed_there sig ns id t ty e h is = record {
   within = h;
-  typed = ap (nameless_fault sig) is ∙ ap fault_of (sym (typed-nameless sig [] t) ∙ e);
+  typed = ap (nameless_fault sig) is ∙ ap result_err (sym (typed-nameless sig [] t) ∙ e);
 }

@@ -1,4 +1,4 @@
-//! Tests of lt_store and lt_formulas over the plain store: each call once.
+//! Tests of lt_store, lt_shared and lt_formulas: each call once.
 #![tactic(auto)]
 
 #[cfg(test)]

@@ -1,6 +1,7 @@
-//! Each call of a store, through the trait's bound.
+//! Each call of a store, through the trait's bound, over both stores.
 use crate::making::{apply, are_same, bind, constant, variable};
 use lt_hol::Memory;
+use lt_shared::SharedStore;
 use lt_store::{Id, PlainStore, TermStore, View};
 use std::alloc::Global;
 use std::process::Abort;
@@ -54,5 +55,21 @@ fn nodes_are_shown_as_they_were_made(rt: HostRuntime) -> Result<(), Fail> {
 fn terms_are_compared(rt: HostRuntime) -> Result<(), Fail> {
     let mut store = PlainStore::new(rt.alloc());
     compares(rt.alloc(), &rt, &mut store)?;
+    Ok(())
+}
+
+#[test]
+fn shared_nodes_are_shown_as_they_were_made(rt: HostRuntime) -> Result<(), Fail> {
+    let mut store = SharedStore::new(rt.alloc());
+    shows(rt.alloc(), &rt, &mut store)?;
+    Ok(())
+}
+
+/// Two variables are two nodes, however often they are made.
+#[test]
+fn shared_terms_are_compared(rt: HostRuntime) -> Result<(), Fail> {
+    let mut store = SharedStore::new(rt.alloc());
+    compares(rt.alloc(), &rt, &mut store)?;
+    assert_eq!(rt; store.len(), 2);
     Ok(())
 }

@@ -1,0 +1,2 @@
+pub mod NodeEquality
+pub mod SeparateLemmas

@@ -1,0 +1,6 @@
+//! A store of terms in which no node stands twice.
+#![tactic(auto)]
+
+mod shared_store;
+
+pub use shared_store::SharedStore;

@@ -1,0 +1,102 @@
+//! A store that keeps each node once.
+ghost use Rattle.std.specs.Prelude.{◌≡◌, ◌<◌, ℕ, [], length, slice_get, Some, IfOk};
+ghost use Rattle.lt_store.specs.declared.node.Node.{Node};
+ghost use Rattle.lt_store.specs.Trees.{Extends, IsBelow, Makes, node_tree, tree_at};
+ghost use Rattle.lt_store.specs.Views.{node_of};
+
+use indexmap::IndexSet;
+use lt_hol::{Memory, Name, Ty, Tys};
+use lt_store::{Id, Node, TermStore, View};
+use std::alloc::Global;
+use std::marker::Model;
+
+/// The nodes as keys of a set, in the order in which they were first made: a node that was made
+/// before is found again, so that each term stands once and `same` compares two numbers.
+#[derive(Debug, Drop)]
+pub struct SharedStore {
+    nodes: IndexSet<Node>,
+}
+
+impl Model for SharedStore {
+    ghost use Rattle.std.specs.Prelude.{List};
+    ghost use Rattle.lt_store.specs.declared.node.Node.{Node};
+    ghost use Rattle.lt_store.specs.Trees.{IsGrounded};
+    ghost use Rattle.lt_shared.specs.Separate.{IsSeparate};
+
+    ghost Value = { List Node };
+
+    ghost use Rattle.std.specs.Coded.{coded_list, codes};
+    ghost use Rattle.lt_types.specs.Codes.{coded_type};
+
+    ghost coded = { coded_list (Prim.hlevel (codes, coded_type)) };
+
+    ghost view = { λ s. s.nodes.keys };
+
+    ghost invariant = { λ s. record { grounded : IsGrounded s.nodes.keys; separate : IsSeparate s.nodes.keys } };
+}
+
+impl SharedStore {
+    /// The store without nodes. It takes no memory.
+    pub fn new(alloc: Global) -> SharedStore
+        ensures { result ≡ [] }
+    {
+        SharedStore {
+            nodes: IndexSet::new(alloc),
+        }
+    }
+
+    /// The id of a node, which is added where it isn't there yet.
+    fn add(&mut self, node: Node) -> Result<Id, Memory>
+        requires { IsBelow (length self.old) node }
+        ensures ok { IfOk result (Makes self.old self.new node) }
+        ensures kept { Extends self.old self.new }
+    {
+        let (id, _) = self.nodes.insert_full(node)?;
+        Ok(id)
+    }
+}
+
+impl TermStore for SharedStore {
+    ghost nodes = { λ s. s };
+
+    fn len(&self) -> usize {
+        self.nodes.len()
+    }
+
+    /// The node of an id. No other id has it.
+    fn view(&self, id: Id) -> View<'_>
+        requires { id < length self.now }
+        ensures node { slice_get self.now id ≡ Some (node_of result) }
+        ensures below { IsBelow id (node_of result) }
+        ensures stands { tree_at self.now id ≡ node_tree self.now (node_of result) }
+        ensures once { (other : ℕ) → slice_get self.now other ≡ Some (node_of result) → other ≡ id }
+    {
+        self.nodes[id].view()
+    }
+
+    fn mk_free(&mut self, _alloc: Global, name: Name, ty: Ty) -> Result<Id, Memory> {
+        self.add(Node::Free(name, ty))
+    }
+
+    fn mk_bound(&mut self, _alloc: Global, index: usize) -> Result<Id, Memory> {
+        self.add(Node::Bound(index))
+    }
+
+    fn mk_const(&mut self, _alloc: Global, name: Name, types: Tys) -> Result<Id, Memory> {
+        self.add(Node::Const(name, types))
+    }
+
+    fn mk_app(&mut self, _alloc: Global, f: Id, a: Id) -> Result<Id, Memory> {
+        self.add(Node::App(f, a))
+    }
+
+    fn mk_lam(&mut self, _alloc: Global, ty: Ty, body: Id) -> Result<Id, Memory> {
+        self.add(Node::Lam(ty, body))
+    }
+
+    /// Whether the two ids are one, which takes constant time.
+    fn same(&self, _alloc: Global, a: Id, b: Id) -> Result<bool, Memory> {
+        let _ = &self.nodes;
+        Ok(a == b)
+    }
+}
