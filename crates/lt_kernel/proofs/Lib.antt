@@ -1,5 +1,6 @@
-pub mod Numbers
-pub mod OtherOutcomes
+pub mod LineNumbers
 pub mod Outcomes
 pub mod NamedIds
-pub mod States
+pub mod StateLemmas
+pub mod GrowingLemmas
+pub mod ReachingLemmas

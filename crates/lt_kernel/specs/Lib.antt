@@ -1,4 +1,5 @@
-pub mod Reasons
 pub mod Sequents
 pub mod Lines
 pub mod State
+pub mod Growing
+pub mod Reaching

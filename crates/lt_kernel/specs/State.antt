@@ -1,7 +1,8 @@
 -- What contracts see of a proof, and what its calls answer.
-use Rattle.std.specs.Prelude.{◌≡◌, ℕ, List, [], ◌∷◌, ◌++◌, length, is_some, true, None, Result, Ok, Err}
+use Rattle.std.specs.Prelude.{◌≡◌, ℕ, List, [], ◌∷◌, ◌++◌, length, is_some, true, Some, None, Result, Ok, Err}
 use Rattle.lt_definitions.specs.Types.{Chars, found}
 use Rattle.lt_definitions.specs.Typing.{Signature}
+use Rattle.lt_definitions.specs.Rules.{line_at}
 use Rattle.lt_nameless.specs.Nameless.{Nameless, NamelessSequent}
 use Rattle.lt_nameless.specs.NamelessRules.{NamelessOutcome, nameless_step}
 use Rattle.lt_hol.specs.declared.line.Line.{Line}
@@ -10,7 +11,6 @@ use Rattle.lt_store.specs.Trees.{Extends}
 use Rattle.lt_kernel.specs.declared.sequent.Step.{Step}
 use Rattle.lt_kernel.specs.declared.rule_fault.RuleFault.{RuleFault}
 use Rattle.lt_kernel.specs.declared.rule_fault.RuleFault.TheVariants.{Bad, Duplicate, Memory}
-use Rattle.lt_kernel.specs.Reasons.{reason_of}
 use Rattle.lt_kernel.specs.Sequents.{sequent_at, sequents_at, statements_at}
 use Rattle.lt_kernel.specs.Lines.{rule_at}
 
@@ -52,6 +52,7 @@ pub record AddsLine (old new : State) (by : Line) (outcome : NamelessOutcome) (n
   pub step : Step
   pub line : step.line ≡ by
   pub gives : outcome ≡ Ok (sequent_at new.nodes step.sequent)
+  pub there : line_at (sequents new) n ≡ Some (sequent_at new.nodes step.sequent)
   pub steps : new.steps ≡ old.steps ++ step ∷ []
   pub sequents : sequents new ≡ sequents old ++ sequent_at new.nodes step.sequent ∷ []
   pub number : n ≡ length new.steps
@@ -59,7 +60,7 @@ pub record AddsLine (old new : State) (by : Line) (outcome : NamelessOutcome) (n
 -- The line was added with what its rule gives, or its rule gives nothing, for the first reason that is answered, and all stays.
 abbrev pub Answers : State → State → Line → Result ℕ RuleFault → NamelessOutcome → Type 0
 Answers old new line (Ok n) outcome = AddsLine old new line outcome n
-Answers old new line (Err (Bad r)) outcome = (outcome ≡ Err (reason_of r)) × Keeps old new
+Answers old new line (Err (Bad r)) outcome = (outcome ≡ Err r) × Keeps old new
 Answers old new line (Err (Duplicate l)) outcome = ⊥
 Answers old new line (Err Memory) outcome = Keeps old new
 

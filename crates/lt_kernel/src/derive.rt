@@ -1,5 +1,5 @@
 //! What a line's rule gives.
-ghost use Rattle.std.specs.Prelude.{◌≡◌, length};
+ghost use Rattle.std.specs.Prelude.{length};
 ghost use Rattle.lt_nameless.specs.NamelessRules.{nameless_step};
 ghost use Rattle.lt_store.specs.Trees.{Extends};
 ghost use Rattle.lt_kernel.specs.Lines.{rule_at, IsGoodLine};
@@ -21,7 +21,7 @@ use lt_store::{Id, TermStore};
 use std::alloc::Global;
 
 /// The sequent that a line's rule gives over the lines so far.
-pub fn derive<S: TermStore>(
+pub(crate) fn derive<S: TermStore>(
     alloc: Global,
     store: &mut S,
     sig: &Signature,
@@ -33,7 +33,9 @@ pub fn derive<S: TermStore>(
     requires named { NamedWithin (length (S.nodes store.old)) named.now.entries }
     requires line { IsGoodLine sig.now (S.nodes store.old) line.now }
     ensures kept { Extends (S.nodes store.old) (S.nodes store.new) }
-    ensures step { Gives (S.nodes store.new) result (nameless_step sig.now (statements_at (S.nodes store.old) named.now.entries) (sequents_at (S.nodes store.old) done.now) (rule_at (S.nodes store.old) line.now)) }
+    ensures step { Gives (S.nodes store.new) result
+        (nameless_step sig.now (statements_at (S.nodes store.old) named.now.entries)
+        (sequents_at (S.nodes store.old) done.now) (rule_at (S.nodes store.old) line.now)) }
 {
     match line {
         Line::Assume(p) => assume(alloc, store, sig, *p),

@@ -9,6 +9,8 @@ mod choosing;
 mod derive;
 mod equating;
 mod implying;
+mod passes;
+mod premises;
 mod proof;
 mod proof_store;
 mod quantifying;
@@ -16,6 +18,7 @@ mod replacing;
 mod rule_fault;
 mod sequent;
 mod steps;
+pub mod sure;
 
 pub use proof::{Proof, ProofMark};
 pub use rule_fault::RuleFault;

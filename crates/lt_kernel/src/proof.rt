@@ -1,14 +1,17 @@
 //! What a theory has declared and stated, and the lines of a derivation, over a store of terms.
-ghost use Rattle.std.specs.Prelude.{◌≡◌, ◌<◌, [], ◌∷◌, ◌++◌, length, take, is_some, None, IfOk, IfSome, OnOk, OnErr};
+ghost use Rattle.std.specs.Prelude.{◌≡◌, ◌<◌, [], ◌∷◌, ◌++◌, length, take, is_some, true, Some, None, IfOk, IfSome, OnOk, OnErr};
 ghost use Rattle.std.specs.Option.{option_copied, option_map};
 ghost use Rattle.lt_definitions.specs.Types.{found};
 ghost use Rattle.lt_definitions.specs.Rules.{line_at};
 ghost use Rattle.lt_nameless.specs.Nameless.{nameless, IsWhole};
 ghost use Rattle.lt_hol.specs.Faults.{DeclaresType, DeclaresConst, cut};
+ghost use Rattle.lt_store.specs.Building.{Builds};
 ghost use Rattle.lt_store.specs.Trees.{tree_at};
 ghost use Rattle.lt_kernel.specs.Lines.{IsGoodLine};
 ghost use Rattle.lt_kernel.specs.Sequents.{IsWithin};
-ghost use Rattle.lt_kernel.specs.State.{step_of, Answers, Keeps, Names};
+ghost use Rattle.lt_kernel.specs.State.{sequents, step_of, Answers, Keeps, Names};
+ghost use Rattle.lt_kernel.specs.Growing.{Carries};
+ghost use Rattle.lt_kernel.specs.Reaching.{Reaches};
 
 use crate::derive::derive;
 use crate::rule_fault::RuleFault;
@@ -54,7 +57,7 @@ pub struct ProofMark {
     pub statements: usize,
 }
 
-impl<S: TermStore + Drop> Proof<S> {
+impl<S: TermStore> Proof<S> {
     /// A proof without named statements and lines, over a signature and a store.
     pub fn new(alloc: Global, signature: Signature, store: S) -> Proof<S>
         ensures nodes { result.nodes ≡ S.nodes store }
@@ -92,7 +95,9 @@ impl<S: TermStore + Drop> Proof<S> {
     /// `Bad` where the rule gives none, with the first reason. What was there stays, also after a refusal.
     pub fn apply(&mut self, alloc: Global, line: &Line) -> Result<usize, RuleFault>
         requires { IsGoodLine self.old.signature self.old.nodes line.now }
-        ensures { Answers self.old self.new line.now result (step_of self.old line.now) }
+        ensures answers { Answers self.old self.new line.now result (step_of self.old line.now) }
+        ensures reaches { Reaches self.new result (step_of self.old line.now) }
+        ensures carries { Carries self.old self.new }
     {
         let sequent = match derive(
             alloc,
@@ -111,7 +116,8 @@ impl<S: TermStore + Drop> Proof<S> {
 
     /// The sequent of the line with a number; None where there is no such line.
     pub fn sequent(&self, number: usize) -> Option<&Sequent>
-        ensures is { option_copied result ≡ option_map (λ s. s.sequent) (line_at self.now.steps number) }
+        ensures is { option_copied result ≡ option_map (λ s. s.sequent)
+            (line_at self.now.steps number) }
         ensures within { IfSome result (λ s. IsWithin (length self.now.nodes) s.now) }
     {
         match step_at(self.steps.as_slice(), number) {
@@ -130,6 +136,29 @@ impl<S: TermStore + Drop> Proof<S> {
         }
     }
 
+    /// Whether there is a line with the number.
+    pub fn is_line(&self, number: usize) -> bool
+        ensures { result ≡ is_some (line_at (sequents self.now) number) }
+    {
+        match self.sequent(number) {
+            Some(_) => true,
+            None => false,
+        }
+    }
+
+    /// The conclusion of a line; `is_line` is the test.
+    pub fn conclusion(&self, number: usize) -> Id
+        requires { is_some (line_at (sequents self.now) number) ≡ true }
+        ensures within { result < length self.now.nodes }
+        ensures is { option_map (λ s. s.concl) (line_at (sequents self.now) number) ≡ Some
+            (tree_at self.now.nodes result) }
+    {
+        match self.sequent(number) {
+            Some(sequent) => sequent.concl,
+            None => unreachable!(),
+        }
+    }
+
     /// The store of the terms.
     pub fn store(&self) -> &S
         ensures { S.nodes result.now ≡ self.now.nodes }
@@ -140,9 +169,9 @@ impl<S: TermStore + Drop> Proof<S> {
     /// Puts a term into the store. What is declared, the named statements and the lines stay.
     pub fn add_term(&mut self, alloc: Global, t: &Term) -> Result<Id, Memory>
         requires { IsWhole 0 (nameless [] t.now) }
-        ensures kept { Keeps self.old self.new }
-        ensures made { IfOk result (λ r. r < length self.new.nodes) }
-        ensures is { IfOk result (λ r. tree_at self.new.nodes r ≡ nameless [] t.now) }
+        ensures keeps { Keeps self.old self.new }
+        ensures carries { Carries self.old self.new }
+        ensures builds { Builds self.old.nodes self.new.nodes result (nameless [] t.now) }
     {
         let id = to_store(alloc, &mut self.store, t)?;
         Ok(id)
@@ -192,7 +221,8 @@ impl<S: TermStore + Drop> Proof<S> {
 
     /// Drops the types, constants and named statements that came after the mark, and all lines.
     pub fn back(&mut self, mark: ProofMark)
-        ensures { self.new ≡ record self.old { signature = cut mark.sig.types mark.sig.constants self.old.signature; named = take mark.statements self.old.named; steps = [] } }
+        ensures { self.new
+            ≡ record self.old { signature = cut mark.sig.types mark.sig.constants self.old.signature; named = take mark.statements self.old.named; steps = [] } }
     {
         self.signature.back(mark.sig);
         self.named.truncate(mark.statements);
@@ -214,7 +244,8 @@ fn add_step(
     line: &Line,
     sequent: Sequent,
 ) -> Result<usize, Memory>
-    ensures ok { OnOk result (steps.new.items ≡ steps.old.items ++ record { line = line.now; sequent = sequent } ∷ []) }
+    ensures ok { OnOk result
+        (steps.new.items ≡ steps.old.items ++ record { line = line.now; sequent = sequent } ∷ []) }
     ensures number { IfOk result (λ n. n ≡ length steps.new.items) }
     ensures err { OnErr result (steps.new.items ≡ steps.old.items) }
 {

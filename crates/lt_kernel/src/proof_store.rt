@@ -3,13 +3,14 @@ ghost use Rattle.std.specs.Prelude.{◌<◌, length, IfOk};
 ghost use Rattle.lt_store.specs.declared.node.Node.TheVariants.{Free, Bound, Const, App, Lam};
 ghost use Rattle.lt_store.specs.Trees.{Extends, Makes};
 ghost use Rattle.lt_kernel.specs.State.{Keeps};
+ghost use Rattle.lt_kernel.specs.Growing.{Carries};
 
 use crate::proof::Proof;
 use lt_hol::{Memory, Name, Ty, Tys};
 use lt_store::{Id, TermStore, View};
 use std::alloc::Global;
 
-impl<S: TermStore + Drop> TermStore for Proof<S> {
+impl<S: TermStore> TermStore for Proof<S> {
     ghost nodes = { λ p. p.nodes };
 
     fn len(&self) -> usize {
@@ -24,6 +25,7 @@ impl<S: TermStore + Drop> TermStore for Proof<S> {
         ensures ok { IfOk result (Makes self.old.nodes self.new.nodes (Free name ty)) }
         ensures kept { Extends self.old.nodes self.new.nodes }
         ensures keeps { Keeps self.old self.new }
+        ensures carries { Carries self.old self.new }
     {
         self.store.mk_free(alloc, name, ty)
     }
@@ -32,6 +34,7 @@ impl<S: TermStore + Drop> TermStore for Proof<S> {
         ensures ok { IfOk result (Makes self.old.nodes self.new.nodes (Bound index)) }
         ensures kept { Extends self.old.nodes self.new.nodes }
         ensures keeps { Keeps self.old self.new }
+        ensures carries { Carries self.old self.new }
     {
         self.store.mk_bound(alloc, index)
     }
@@ -40,6 +43,7 @@ impl<S: TermStore + Drop> TermStore for Proof<S> {
         ensures ok { IfOk result (Makes self.old.nodes self.new.nodes (Const name types)) }
         ensures kept { Extends self.old.nodes self.new.nodes }
         ensures keeps { Keeps self.old self.new }
+        ensures carries { Carries self.old self.new }
     {
         self.store.mk_const(alloc, name, types)
     }
@@ -50,6 +54,7 @@ impl<S: TermStore + Drop> TermStore for Proof<S> {
         ensures ok { IfOk result (Makes self.old.nodes self.new.nodes (App f a)) }
         ensures kept { Extends self.old.nodes self.new.nodes }
         ensures keeps { Keeps self.old self.new }
+        ensures carries { Carries self.old self.new }
     {
         self.store.mk_app(alloc, f, a)
     }
@@ -59,6 +64,7 @@ impl<S: TermStore + Drop> TermStore for Proof<S> {
         ensures ok { IfOk result (Makes self.old.nodes self.new.nodes (Lam ty body)) }
         ensures kept { Extends self.old.nodes self.new.nodes }
         ensures keeps { Keeps self.old self.new }
+        ensures carries { Carries self.old self.new }
     {
         self.store.mk_lam(alloc, ty, body)
     }

@@ -1,19 +1,21 @@
 //! The rules that replace variables: `inst` and `tinst`.
-ghost use Rattle.std.specs.Prelude.{◌≡◌, ◌<◌, ◌∷◌, [], length, None, IfOk};
-ghost use Rattle.lt_nameless.specs.NamelessRules.{nameless_fault, nameless_replaced, nameless_inst_gives, nameless_tinst_gives};
+ghost use Rattle.std.specs.Prelude.{◌≡◌, ◌<◌, ◌∷◌, [], length, IfOk};
+ghost use Rattle.lt_nameless.specs.NamelessRules.{nameless_replaced, nameless_inst_gives, nameless_tinst_gives};
+ghost use Rattle.lt_store.specs.Building.{Builds};
+ghost use Rattle.lt_store.specs.Typed.{IsTyped};
 ghost use Rattle.lt_store.specs.Trees.{tree_at, Extends};
 ghost use Rattle.lt_kernel.specs.Sequents.{sequents_at, AreWithin, Gives};
 
+use crate::premises::{check_type, line_at};
 use crate::rule_fault::RuleFault;
 use crate::sequent::{Sequent, Step};
-use crate::steps::sequent_at;
-use lt_formulas::{has_type, one, union};
-use lt_hol::{Ids, Memory, Name, Reason, Signature, TryCopy, Ty, TyMap};
+use lt_formulas::{one, union};
+use lt_hol::{Ids, Memory, Name, Signature, TryCopy, Ty, TyMap};
 use lt_store::{Id, TermStore, replace_free, type_instance, type_instances};
 use std::alloc::Global;
 
 /// From `H |- p`: `H |- p`, everywhere with `t` in place of the variable `x`
-pub fn inst<S: TermStore>(
+pub(crate) fn inst<S: TermStore>(
     alloc: Global,
     store: &mut S,
     sig: &Signature,
@@ -24,17 +26,15 @@ pub fn inst<S: TermStore>(
     i: usize,
 ) -> Result<Sequent, RuleFault>
     requires done { AreWithin (length (S.nodes store.old)) done.now }
-    requires t { t < length (S.nodes store.old) }
-    requires typed { nameless_fault sig.now (tree_at (S.nodes store.old) t) ≡ None }
+    requires t { IsTyped sig.now (S.nodes store.old) t }
     ensures kept { Extends (S.nodes store.old) (S.nodes store.new) }
-    ensures step { Gives (S.nodes store.new) result (nameless_inst_gives sig.now (sequents_at (S.nodes store.old) done.now) x.now ty.now (tree_at (S.nodes store.old) t) i) }
+    ensures step { Gives (S.nodes store.new) result
+        (nameless_inst_gives sig.now (sequents_at (S.nodes store.old) done.now) x.now ty.now
+        (tree_at (S.nodes store.old) t) i) }
 {
-    let Some(from) = sequent_at(store, done, i) else {
-        return Err(RuleFault::Bad(Reason::MissingLine));
-    };
-    if !has_type(alloc, store, sig, t, ty)? {
-        return Err(RuleFault::Bad(Reason::TypeDiffers));
-    }
+    let from = line_at(store, done, i)?;
+    // A term of another type would leave an untyped sequent.
+    check_type(alloc, store, sig, t, ty)?;
     let each = replace_free(alloc, store, from.hyps.as_slice(), x, ty, t)?;
     let hyps = union(alloc, store, &Ids::new(alloc), &each)?;
     let concl = replaced(alloc, store, from.concl, x, ty, t)?;
@@ -42,7 +42,7 @@ pub fn inst<S: TermStore>(
 }
 
 /// From `H |- p`: `H |- p`, everywhere with the type `ty` in place of the type variable `a`
-pub fn tinst<S: TermStore>(
+pub(crate) fn tinst<S: TermStore>(
     alloc: Global,
     store: &mut S,
     done: &[Step],
@@ -52,11 +52,10 @@ pub fn tinst<S: TermStore>(
 ) -> Result<Sequent, RuleFault>
     requires { AreWithin (length (S.nodes store.old)) done.now }
     ensures kept { Extends (S.nodes store.old) (S.nodes store.new) }
-    ensures step { Gives (S.nodes store.new) result (nameless_tinst_gives (sequents_at (S.nodes store.old) done.now) a.now ty.now i) }
+    ensures step { Gives (S.nodes store.new) result
+        (nameless_tinst_gives (sequents_at (S.nodes store.old) done.now) a.now ty.now i) }
 {
-    let Some(from) = sequent_at(store, done, i) else {
-        return Err(RuleFault::Bad(Reason::MissingLine));
-    };
+    let from = line_at(store, done, i)?;
     let by = one_pair(alloc, a, ty)?;
     let each = type_instances(alloc, store, from.hyps.as_slice(), &by)?;
     let hyps = union(alloc, store, &Ids::new(alloc), &each)?;
@@ -75,9 +74,9 @@ fn replaced<S: TermStore>(
 ) -> Result<Id, Memory>
     requires t { t < length (S.nodes store.old) }
     requires by { by < length (S.nodes store.old) }
-    ensures kept { Extends (S.nodes store.old) (S.nodes store.new) }
-    ensures made { IfOk result (λ r. r < length (S.nodes store.new)) }
-    ensures is { IfOk result (λ r. tree_at (S.nodes store.new) r ≡ nameless_replaced x.now ty.now (tree_at (S.nodes store.old) by) (tree_at (S.nodes store.old) t)) }
+    ensures { Builds (S.nodes store.old) (S.nodes store.new) result
+        (nameless_replaced x.now ty.now (tree_at (S.nodes store.old) by)
+        (tree_at (S.nodes store.old) t)) }
 {
     let ts = one(alloc, t)?;
     let made = replace_free(alloc, store, ts.as_slice(), x, ty, by)?;

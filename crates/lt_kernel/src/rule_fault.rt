@@ -16,6 +16,18 @@ pub enum RuleFault {
     Memory,
 }
 
+impl RuleFault {
+    /// The fault of a call that can't be refused for another reason.
+    pub fn into_memory(self) -> Memory
+        requires { self ≡ OutOfMemory }
+    {
+        match self {
+            RuleFault::Memory => Memory,
+            _ => unreachable!(),
+        }
+    }
+}
+
 impl From<Memory> for RuleFault {
     ghost from_gives = { λ _ e. e ≡ OutOfMemory };
 

@@ -8,7 +8,7 @@ use crate::sequent::{Sequent, Step};
 use lt_store::TermStore;
 
 /// The line with a number, from 1.
-pub fn step_at(steps: &[Step], number: usize) -> Option<&Step>
+pub(crate) fn step_at(steps: &[Step], number: usize) -> Option<&Step>
     ensures { option_copied result ≡ line_at steps.now number }
 {
     if number == 0 {
@@ -21,13 +21,14 @@ pub fn step_at(steps: &[Step], number: usize) -> Option<&Step>
 }
 
 /// The sequent of the line with a number.
-pub fn sequent_at<'a, S: TermStore>(
+pub(crate) fn sequent_at<'a, S: TermStore>(
     _store: &S,
     done: &'a [Step],
     number: usize,
 ) -> Option<&'a Sequent>
     requires { AreWithin (length (S.nodes _store.now)) done.now }
-    ensures is { option_map (sequent_at (S.nodes _store.now)) (option_copied result) ≡ line_at (sequents_at (S.nodes _store.now) done.now) number }
+    ensures is { option_map (sequent_at (S.nodes _store.now)) (option_copied result) ≡ line_at
+        (sequents_at (S.nodes _store.now) done.now) number }
     ensures within { IfSome result (λ s. IsWithin (length (S.nodes _store.now)) s.now) }
 {
     match step_at(done, number) {

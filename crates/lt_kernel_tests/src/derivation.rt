@@ -66,7 +66,7 @@ const LAST: [Row<'static>; 10] = [
 ];
 
 /// States an implication named `l`.
-fn stated<S: TermStore + Drop>(alloc: Global, proof: &mut Proof<S>) -> Result<(), Fail> {
+fn stated<S: TermStore>(alloc: Global, proof: &mut Proof<S>) -> Result<(), Fail> {
     let (_, statement) = parts(alloc, "Ip.q.")?;
     let statement = put(alloc, proof, &statement)?;
     proof.add_statement(alloc, name(alloc, "l")?, statement)?;
@@ -74,7 +74,7 @@ fn stated<S: TermStore + Drop>(alloc: Global, proof: &mut Proof<S>) -> Result<()
 }
 
 /// Derives lines, and compares them with their sequents.
-fn follow<S: TermStore + Drop>(
+fn follow<S: TermStore>(
     alloc: Global,
     rt: &impl Abort,
     proof: &mut Proof<S>,
@@ -96,7 +96,7 @@ fn each_rule_gives_its_sequent(rt: HostRuntime) -> Result<(), Fail> {
 }
 
 /// Derives all lines.
-fn follow_all<S: TermStore + Drop>(
+fn follow_all<S: TermStore>(
     alloc: Global,
     rt: &impl Abort,
     proof: &mut Proof<S>,

@@ -6,8 +6,6 @@ mod calls;
 #[cfg(test)]
 mod derivation;
 #[cfg(test)]
-mod large;
-#[cfg(test)]
 mod lines;
 #[cfg(test)]
 mod machine;

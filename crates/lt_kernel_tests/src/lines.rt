@@ -2,6 +2,7 @@
 ghost use Rattle.std.specs.Prelude.{◌≡◌, ◌<◌, length, None, IfOk};
 ghost use Rattle.lt_definitions.specs.Typing.{type_fault};
 ghost use Rattle.lt_nameless.specs.NamelessRules.{nameless_fault};
+ghost use Rattle.lt_store.specs.Typed.{IsTyped};
 ghost use Rattle.lt_store.specs.Trees.{tree_at};
 
 use crate::machine::{name, parts, plain_type, terms};
@@ -16,14 +17,14 @@ use std::test::Fail;
 pub type Given<'a> = (&'a str, &'a str, &'a str, usize, usize);
 
 /// A proof over the type `nat` and the constants `p`, `q`, `z` and `s`.
-pub fn declared<S: TermStore + Drop>(alloc: Global, store: S) -> Result<Proof<S>, Fail> {
+pub fn declared<S: TermStore>(alloc: Global, store: S) -> Result<Proof<S>, Fail> {
     let signature = Signature::new(alloc)?;
     let mut proof = Proof::new(alloc, signature, store);
     declare(alloc, &mut proof)?;
     Ok(proof)
 }
 
-fn declare<S: TermStore + Drop>(alloc: Global, proof: &mut Proof<S>) -> Result<(), Fail> {
+fn declare<S: TermStore>(alloc: Global, proof: &mut Proof<S>) -> Result<(), Fail> {
     declare_type(alloc, proof, "nat")?;
     declare_constant(alloc, proof, "p", "bool")?;
     declare_constant(alloc, proof, "q", "bool")?;
@@ -32,7 +33,7 @@ fn declare<S: TermStore + Drop>(alloc: Global, proof: &mut Proof<S>) -> Result<(
 }
 
 /// Declares a type without arguments.
-pub fn declare_type<S: TermStore + Drop>(
+pub fn declare_type<S: TermStore>(
     alloc: Global,
     proof: &mut Proof<S>,
     text: &str,
@@ -43,7 +44,7 @@ pub fn declare_type<S: TermStore + Drop>(
 }
 
 /// Declares a constant of a type without arguments.
-pub fn declare_constant<S: TermStore + Drop>(
+pub fn declare_constant<S: TermStore>(
     alloc: Global,
     proof: &mut Proof<S>,
     text: &str,
@@ -56,7 +57,7 @@ pub fn declare_constant<S: TermStore + Drop>(
 }
 
 /// Declares a function on a type without arguments.
-fn declare_function<S: TermStore + Drop>(
+fn declare_function<S: TermStore>(
     alloc: Global,
     proof: &mut Proof<S>,
     text: &str,
@@ -71,11 +72,7 @@ fn declare_function<S: TermStore + Drop>(
 }
 
 /// The id of a term, which has no fault.
-pub fn put<S: TermStore + Drop>(
-    alloc: Global,
-    proof: &mut Proof<S>,
-    term: &Term,
-) -> Result<Id, Fail>
+pub fn put<S: TermStore>(alloc: Global, proof: &mut Proof<S>, term: &Term) -> Result<Id, Fail>
     ensures within { IfOk result (λ t. t < length proof.new.nodes) }
     ensures typed { IfOk result (λ t. nameless_fault proof.new.signature (tree_at proof.new.nodes t) ≡ None) }
 {
@@ -85,7 +82,7 @@ pub fn put<S: TermStore + Drop>(
 }
 
 /// What a line gives.
-pub fn derive<S: TermStore + Drop>(
+pub fn derive<S: TermStore>(
     alloc: Global,
     proof: &mut Proof<S>,
     given: Given<'_>,
@@ -96,20 +93,7 @@ pub fn derive<S: TermStore + Drop>(
     derive_from(alloc, proof, rule, x, ty, &term, i, j)
 }
 
-/// What a line gives whose rule is given a term and perhaps an earlier line.
-pub fn derive_of<S: TermStore + Drop>(
-    alloc: Global,
-    proof: &mut Proof<S>,
-    rule: &str,
-    term: &Term,
-    i: usize,
-) -> Result<Result<usize, RuleFault>, Fail> {
-    let x = name(alloc, "x")?;
-    let ty = Ty::bool(alloc)?;
-    derive_from(alloc, proof, rule, x, ty, term, i, 0)
-}
-
-fn derive_from<S: TermStore + Drop>(
+fn derive_from<S: TermStore>(
     alloc: Global,
     proof: &mut Proof<S>,
     rule: &str,
@@ -125,7 +109,7 @@ fn derive_from<S: TermStore + Drop>(
 }
 
 /// The call of a rule's name.
-fn call<S: TermStore + Drop>(
+fn call<S: TermStore>(
     alloc: Global,
     proof: &mut Proof<S>,
     rule: &str,
@@ -136,8 +120,7 @@ fn call<S: TermStore + Drop>(
     j: usize,
 ) -> Result<usize, RuleFault>
     requires ty { type_fault proof.old.signature ty ≡ None }
-    requires t { t < length proof.old.nodes }
-    requires typed { nameless_fault proof.old.signature (tree_at proof.old.nodes t) ≡ None }
+    requires t { IsTyped proof.old.signature proof.old.nodes t }
 {
     match rule {
         "assume" => proof.assume(alloc, t),
@@ -150,7 +133,7 @@ fn call<S: TermStore + Drop>(
 }
 
 /// The call of a rule that is given lines alone.
-fn call_of_lines<S: TermStore + Drop>(
+fn call_of_lines<S: TermStore>(
     alloc: Global,
     proof: &mut Proof<S>,
     rule: &str,
@@ -161,8 +144,7 @@ fn call_of_lines<S: TermStore + Drop>(
     j: usize,
 ) -> Result<usize, RuleFault>
     requires ty { type_fault proof.old.signature ty ≡ None }
-    requires t { t < length proof.old.nodes }
-    requires typed { nameless_fault proof.old.signature (tree_at proof.old.nodes t) ≡ None }
+    requires t { IsTyped proof.old.signature proof.old.nodes t }
 {
     match rule {
         "sym" => proof.sym(alloc, i),
@@ -176,7 +158,7 @@ fn call_of_lines<S: TermStore + Drop>(
 }
 
 /// The call of a rule that is given a term, and of `select` and `ccontr`.
-fn call_of_term<S: TermStore + Drop>(
+fn call_of_term<S: TermStore>(
     alloc: Global,
     proof: &mut Proof<S>,
     rule: &str,
@@ -187,8 +169,7 @@ fn call_of_term<S: TermStore + Drop>(
     j: usize,
 ) -> Result<usize, RuleFault>
     requires ty { type_fault proof.old.signature ty ≡ None }
-    requires t { t < length proof.old.nodes }
-    requires typed { nameless_fault proof.old.signature (tree_at proof.old.nodes t) ≡ None }
+    requires t { IsTyped proof.old.signature proof.old.nodes t }
 {
     match rule {
         "impI" => proof.impI(alloc, t, i),
@@ -200,7 +181,7 @@ fn call_of_term<S: TermStore + Drop>(
 }
 
 /// The call of a rule that is given a name.
-fn call_of_name<S: TermStore + Drop>(
+fn call_of_name<S: TermStore>(
     alloc: Global,
     proof: &mut Proof<S>,
     rule: &str,
@@ -210,8 +191,7 @@ fn call_of_name<S: TermStore + Drop>(
     i: usize,
 ) -> Result<usize, RuleFault>
     requires ty { type_fault proof.old.signature ty ≡ None }
-    requires t { t < length proof.old.nodes }
-    requires typed { nameless_fault proof.old.signature (tree_at proof.old.nodes t) ≡ None }
+    requires t { IsTyped proof.old.signature proof.old.nodes t }
 {
     match rule {
         "abs" => proof.abs(alloc, x, ty, i),
@@ -223,7 +203,7 @@ fn call_of_name<S: TermStore + Drop>(
 }
 
 /// Whether a line has the hypotheses and, last, the conclusion of a text.
-pub fn gives<S: TermStore + Drop>(
+pub fn gives<S: TermStore>(
     alloc: Global,
     proof: &mut Proof<S>,
     number: usize,
@@ -240,7 +220,7 @@ pub fn gives<S: TermStore + Drop>(
 }
 
 /// Whether a line has these hypotheses and this conclusion.
-fn is_sequent<S: TermStore + Drop>(
+fn is_sequent<S: TermStore>(
     alloc: Global,
     proof: &Proof<S>,
     number: usize,
@@ -262,12 +242,7 @@ fn is_sequent<S: TermStore + Drop>(
 }
 
 /// Whether two ids stand for one term.
-pub fn same<S: TermStore + Drop>(
-    alloc: Global,
-    proof: &Proof<S>,
-    a: Id,
-    b: Id,
-) -> Result<bool, Fail> {
+pub fn same<S: TermStore>(alloc: Global, proof: &Proof<S>, a: Id, b: Id) -> Result<bool, Fail> {
     if a >= proof.len() || b >= proof.len() {
         return Err("no term".into());
     }
@@ -283,7 +258,7 @@ pub fn reason(answer: Result<usize, RuleFault>) -> Option<Reason> {
 }
 
 /// Derives lines, each of which has to give a sequent.
-pub fn derivation<S: TermStore + Drop>(
+pub fn derivation<S: TermStore>(
     alloc: Global,
     proof: &mut Proof<S>,
     lines: &[Given<'_>],

@@ -95,7 +95,7 @@ const QUANTIFIERS: [(Given<'static>, Reason); 7] = [
 ];
 
 /// Looks for the lines of refused ones.
-fn misses<S: TermStore + Drop>(
+fn misses<S: TermStore>(
     alloc: Global,
     rt: &impl Abort,
     proof: &mut Proof<S>,
@@ -110,7 +110,7 @@ fn misses<S: TermStore + Drop>(
 }
 
 /// Compares the reasons of refused lines.
-fn refuses<S: TermStore + Drop>(
+fn refuses<S: TermStore>(
     alloc: Global,
     rt: &impl Abort,
     proof: &mut Proof<S>,
@@ -132,7 +132,7 @@ fn lines_are_looked_for_first(rt: HostRuntime) -> Result<(), Fail> {
 }
 
 /// Looks for the lines of each rule that names lines.
-fn misses_all<S: TermStore + Drop>(
+fn misses_all<S: TermStore>(
     alloc: Global,
     rt: &impl Abort,
     proof: &mut Proof<S>,
@@ -151,7 +151,7 @@ fn each_rule_tells_its_reasons(rt: HostRuntime) -> Result<(), Fail> {
 }
 
 /// Compares all reasons.
-fn refuses_all<S: TermStore + Drop>(
+fn refuses_all<S: TermStore>(
     alloc: Global,
     rt: &impl Abort,
     proof: &mut Proof<S>,
@@ -165,7 +165,7 @@ fn refuses_all<S: TermStore + Drop>(
 }
 
 /// The lines are those before the refused ones, and no more.
-fn has_front<S: TermStore + Drop>(
+fn has_front<S: TermStore>(
     alloc: Global,
     rt: &impl Abort,
     proof: &mut Proof<S>,

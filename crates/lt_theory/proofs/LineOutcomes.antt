@@ -4,18 +4,18 @@ use Rattle.std.specs.List.{list_all}
 use Rattle.std.proofs.lemmas.List.{map-append, drop_all}
 use Rattle.std.proofs.lemmas.Option.{slice_get-map}
 use Rattle.lt_definitions.proofs.SameNames.{both-true}
+use Rattle.lt_definitions.specs.declared.reason.Reason.{Reason}
+use Rattle.lt_definitions.specs.Terms.{TermTree}
 use Rattle.lt_definitions.specs.Typing.{Signature, Fault}
 use Rattle.lt_definitions.specs.Items.{Context}
-use Rattle.lt_definitions.specs.Rules.{Sequent, Rule, Reason, Outcome, step}
-use Rattle.lt_definitions.specs.Derivations.{LineFault, ill_typed, no_step, line_outcome, rule_fault, derived, derived_after}
+use Rattle.lt_definitions.specs.Rules.{Sequent, Rule, Outcome, step}
+use Rattle.lt_definitions.specs.Derivations.{LineFault, ill_typed, no_step, line_outcome, term_fault, rule_fault, derived, derived_after}
 use Rattle.lt_nameless.specs.Nameless.{NamelessSequent, nameless_sequent}
 use Rattle.lt_nameless.specs.NamelessRules.{nameless_outcome, nameless_step}
 use Rattle.lt_nameless.proofs.NamelessSteps.{step_is_nameless}
 use Rattle.lt_hol.specs.declared.line.Line.{Line}
-use Rattle.lt_hol.specs.declared.reason.Reason.{Reason as Kernel}
-use Rattle.lt_kernel.specs.Reasons.{reason_of}
 use Rattle.lt_kernel.specs.Sequents.{sequent_at, sequents_at}
-use Rattle.lt_kernel.specs.State.{State, step_of, Stays, Keeps, AddsLine}
+use Rattle.lt_kernel.specs.State.{State, step_of, Keeps, AddsLine}
 use Rattle.lt_theory.specs.declared.fault.Fault.{Fault as Refusal}
 use Rattle.lt_theory.specs.declared.fault.Fault.TheVariants.{Refused, Memory}
 use Rattle.lt_theory.specs.Standing.{StandsFor}
@@ -31,18 +31,18 @@ err-outcome (Ok s) r e = absurd (cc e)
 err-outcome (Err k) r e = let same : k ≡ r = cc e in ap Err same
 
 -- what the kernel's rule gives is what the rule gives, without binder names
-step-of : (ctx : Context) (done : List Sequent) (rule : Rule) (old mid : State) (line : Line) → StandsFor ctx old → HasSequents old done → Keeps old mid
+step-of : (ctx : Context) (done : List Sequent) (rule : Rule TermTree) (old mid : State) (line : Line) → StandsFor ctx old → HasSequents old done → Keeps old mid
     → IsStoredLine old.signature mid.nodes rule line → nameless_outcome (step ctx.signature ctx.statements done rule) ≡ step_of mid line
 step-of ctx done rule old mid line h d k s =
-    step_is_nameless ctx.signature ctx.statements done rule (ap (λ (sig : Signature). rule_fault sig rule) (sym h.signature) ∙ s.typed)
+    step_is_nameless ctx.signature ctx.statements done rule (ap (λ (sig : Signature). rule_fault sig (term_fault sig) rule) (sym h.signature) ∙ s.typed)
     ∙ sym (λ i. nameless_step ((k.stays.signature ∙ h.signature) i) ((k.stays.statements ∙ h.statements) i) ((k.sequents ∙ d) i) (s.is i))
 
-typed-outcome : (ctx : Context) (done : List Sequent) (rule : Rule) (old : State) (o : Outcome) → StandsFor ctx old → rule_fault old.signature rule ≡ None
+typed-outcome : (ctx : Context) (done : List Sequent) (rule : Rule TermTree) (old : State) (o : Outcome) → StandsFor ctx old → rule_fault old.signature (term_fault old.signature) rule ≡ None
     → step ctx.signature ctx.statements done rule ≡ o → outcome_of ctx done rule ≡ line_outcome None o
-typed-outcome ctx done rule old o h t e = λ i. line_outcome ((ap (λ (sig : Signature). rule_fault sig rule) (sym h.signature) ∙ t) i) (e i)
+typed-outcome ctx done rule old o h t e = λ i. line_outcome ((ap (λ (sig : Signature). rule_fault sig (term_fault sig) rule) (sym h.signature) ∙ t) i) (e i)
 
 -- one more line
-pub line-added : (ctx : Context) (done : List Sequent) (rule : Rule) (old mid new : State) (line : Line) (n : ℕ) → StandsFor ctx old → HasSequents old done → Keeps old mid
+pub line-added : (ctx : Context) (done : List Sequent) (rule : Rule TermTree) (old mid new : State) (line : Line) (n : ℕ) → StandsFor ctx old → HasSequents old done → Keeps old mid
     → IsStoredLine old.signature mid.nodes rule line → AddsLine mid new line (step_of mid line) n → DerivesLine ctx done rule new (Ok n)
 line-added ctx done rule old mid new line n h d k s a =
     let got = ok-outcome (step ctx.signature ctx.statements done rule) (sequent_at new.nodes a.step.sequent) (step-of ctx done rule old mid line h d k s ∙ a.gives) in (
@@ -52,11 +52,11 @@ line-added ctx done rule old mid new line n h d k s a =
     )
 
 -- a line whose rule gives nothing
-pub line-bad : (ctx : Context) (done : List Sequent) (rule : Rule) (old mid new : State) (line : Line) (r : Kernel) → StandsFor ctx old → HasSequents old done → Keeps old mid
-    → IsStoredLine old.signature mid.nodes rule line → step_of mid line ≡ Err (reason_of r) → DerivesLine ctx done rule new (Err Refused)
+pub line-bad : (ctx : Context) (done : List Sequent) (rule : Rule TermTree) (old mid new : State) (line : Line) (r : Reason) → StandsFor ctx old → HasSequents old done → Keeps old mid
+    → IsStoredLine old.signature mid.nodes rule line → step_of mid line ≡ Err r → DerivesLine ctx done rule new (Err Refused)
 line-bad ctx done rule old mid new line r h d k s e = (
-  no_step (reason_of r),
-  typed-outcome ctx done rule old (Err (reason_of r)) h s.typed (err-outcome (step ctx.signature ctx.statements done rule) (reason_of r) (step-of ctx done rule old mid line h d k s ∙ e)),
+  no_step r,
+  typed-outcome ctx done rule old (Err r) h s.typed (err-outcome (step ctx.signature ctx.statements done rule) r (step-of ctx done rule old mid line h d k s ∙ e)),
 )
 
 faulty : (o : Option Fault) (outcome : Outcome) → IsSome o → (f : LineFault) × (line_outcome o outcome ≡ Err f)
@@ -64,23 +64,11 @@ faulty (Some f) outcome h = (ill_typed f, refl)
 faulty None outcome h = absurd (cc h)
 
 -- a line whose types or terms have a fault
-pub line-refused : (ctx : Context) (done : List Sequent) (rule : Rule) (old new : State) (nodes : _) (e : Refusal) → StandsFor ctx old → StoresLine old.signature nodes rule (Err e)
+pub line-refused : (ctx : Context) (done : List Sequent) (rule : Rule TermTree) (old new : State) (nodes : _) (e : Refusal) → StandsFor ctx old → StoresLine old.signature nodes rule (Err e)
     → DerivesLine ctx done rule new (Err e)
 line-refused ctx done rule old new nodes Refused h s =
-    faulty (rule_fault ctx.signature rule) (step ctx.signature ctx.statements done rule) (subst (λ (sig : Signature). IsSome (rule_fault sig rule)) h.signature s)
+    faulty (rule_fault ctx.signature (term_fault ctx.signature) rule) (step ctx.signature ctx.statements done rule) (subst (λ (sig : Signature). IsSome (rule_fault sig (term_fault sig) rule)) h.signature s)
 line-refused ctx done rule old new nodes Memory h s = tt
-
-pub still : (old mid new : State) → Stays old mid → Stays mid new → Stays old new
-still old mid new p q = record {
-  nodes = record {
-    more = p.nodes.more ++ q.nodes.more;
-    is = q.nodes.is ∙ ap (λ ns. ns ++ q.nodes.more) p.nodes.is ∙ append_assoc old.nodes p.nodes.more q.nodes.more;
-    grows = omega (arith, p.nodes.grows, q.nodes.grows);
-  };
-  signature = q.signature ∙ p.signature;
-  named = q.named ∙ p.named;
-  statements = q.statements ∙ p.statements;
-}
 
 -- ---- all lines
 
@@ -95,15 +83,15 @@ rest-is f xs i x e =
     at-place (map f xs) i (f x) (slice_get-map f xs i ∙ ap (option_map f) e) ∙ ap (λ (k : ℕ). f x ∷ drop k (map f xs)) next
 
 -- the lines before a place have sequents, and what the lines derive hangs on the others
-pub record IsDerivedTo (ctx : Context) (rules : List Rule) (i : ℕ) (now : State) : Type 0 where
+pub record IsDerivedTo (ctx : Context) (rules : List (Rule TermTree)) (i : ℕ) (now : State) : Type 0 where
   pub done : List Sequent
   pub sequents : HasSequents now done
   pub rest : derived ctx.signature ctx.statements [] rules ≡ derived ctx.signature ctx.statements done (drop i rules)
 
-pub derived-first : (ctx : Context) (rules : List Rule) (now : State) → now.steps ≡ [] → IsDerivedTo ctx rules 0 now
+pub derived-first : (ctx : Context) (rules : List (Rule TermTree)) (now : State) → now.steps ≡ [] → IsDerivedTo ctx rules 0 now
 derived-first ctx rules now e = record { done = []; sequents = ap (λ steps. sequents_at now.nodes steps) e; rest = refl }
 
-pub derived-next : (ctx : Context) (f : Line → Rule) (lines : List Line) (i n : ℕ) (line : Line) (old new : State) → StandsFor ctx old → slice_get lines i ≡ Some line
+pub derived-next : (ctx : Context) (f : Line → Rule TermTree) (lines : List Line) (i n : ℕ) (line : Line) (old new : State) → StandsFor ctx old → slice_get lines i ≡ Some line
     → IsDerivedTo ctx (map f lines) i old → ((done : List Sequent) → HasSequents old done → DerivesLine ctx done (f line) new (Ok n)) → IsDerivedTo ctx (map f lines) (i + 1) new
 derived-next ctx f lines i n line old new h e d g = let got = g d.done d.sequents in record {
   done = d.done ++ got.0 ∷ [];
@@ -113,7 +101,7 @@ derived-next ctx f lines i n line old new h e d g = let got = g d.done d.sequent
 }
 
 -- a line that derives nothing
-pub derived-wrong : (ctx : Context) (f : Line → Rule) (lines : List Line) (i : ℕ) (line : Line) (old new : State) (e : Refusal) → StandsFor ctx old → slice_get lines i ≡ Some line
+pub derived-wrong : (ctx : Context) (f : Line → Rule TermTree) (lines : List Line) (i : ℕ) (line : Line) (old new : State) (e : Refusal) → StandsFor ctx old → slice_get lines i ≡ Some line
     → IsDerivedTo ctx (map f lines) i old → ((done : List Sequent) → HasSequents old done → DerivesLine ctx done (f line) new (Err e)) → DerivesLines ctx (map f lines) new (Err e)
 derived-wrong ctx f lines i line old new Refused h at d g = let got = g d.done d.sequents in (
   (length d.done + 1, got.0),
@@ -123,7 +111,7 @@ derived-wrong ctx f lines i line old new Refused h at d g = let got = g d.done d
 derived-wrong ctx f lines i line old new Memory h at d g = tt
 
 -- behind the last line
-pub derived-last : (ctx : Context) (rules : List Rule) (i n : ℕ) (now : State) → length rules ≤ i → IsDerivedTo ctx rules i now → DerivesLines ctx rules now (Ok n)
+pub derived-last : (ctx : Context) (rules : List (Rule TermTree)) (i n : ℕ) (now : State) → length rules ≤ i → IsDerivedTo ctx rules i now → DerivesLines ctx rules now (Ok n)
 derived-last ctx rules i n now h d = (d.done, d.rest ∙ ap (derived ctx.signature ctx.statements d.done) (drop_all i rules h), d.sequents)
 
 -- a line's places are within

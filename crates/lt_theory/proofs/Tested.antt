@@ -7,7 +7,7 @@ use Rattle.lt_definitions.specs.Terms.{TermTree}
 use Rattle.lt_definitions.specs.Typing.{Signature, Fault, typed}
 use Rattle.lt_definitions.specs.Alpha.{is_alpha}
 use Rattle.lt_definitions.specs.Rules.{Sequent, line_at}
-use Rattle.lt_definitions.specs.Derivations.{fault_of}
+use Rattle.std.specs.Result.{result_err}
 use Rattle.lt_definitions.specs.Theory.{Refusal, first_of, boolean_test, closed_test, last_of, has_none, is_proved}
 use Rattle.lt_nameless.specs.Nameless.{nameless, NamelessSequent, nameless_sequent, IsWhole}
 use Rattle.lt_nameless.proofs.Alphas.{alpha_is_nameless, alpha_is_tested}
@@ -91,7 +91,7 @@ both-none (Some r) c h = absurd (cc h)
 both-none None (Some r) h = absurd (cc h)
 both-none None None h = (refl, refl)
 
-boolean-typed : (r : Result TypeTree Fault) → boolean_test r ≡ None → fault_of r ≡ None
+boolean-typed : (r : Result TypeTree Fault) → boolean_test r ≡ None → result_err r ≡ None
 boolean-typed (Ok ty) h = refl
 boolean-typed (Err f) h = absurd (cc h)
 

@@ -26,13 +26,13 @@ StoresTerm sig nodes t (Err Refused) = IsSome (term_fault sig t)
 StoresTerm sig nodes t (Err Memory) = Unit {0}
 
 -- The line's terms are ids; it stands for a rule whose types and terms have no fault.
-pub record IsStoredLine (sig : Signature) (nodes : List Node) (rule : Rule) (line : Line) : Type 0 where
+pub record IsStoredLine (sig : Signature) (nodes : List Node) (rule : Rule TermTree) (line : Line) : Type 0 where
   pub good : IsGoodLine sig nodes line
   pub is : rule_at nodes line ≡ nameless_rule rule
-  pub typed : rule_fault sig rule ≡ None
+  pub typed : rule_fault sig (term_fault sig) rule ≡ None
 
 -- the line is stored, or has a fault
-abbrev pub StoresLine : Signature → List Node → Rule → Result Line Fault → Type 0
+abbrev pub StoresLine : Signature → List Node → Rule TermTree → Result Line Fault → Type 0
 StoresLine sig nodes rule (Ok line) = IsStoredLine sig nodes rule line
-StoresLine sig nodes rule (Err Refused) = IsSome (rule_fault sig rule)
+StoresLine sig nodes rule (Err Refused) = IsSome (rule_fault sig (term_fault sig) rule)
 StoresLine sig nodes rule (Err Memory) = Unit {0}

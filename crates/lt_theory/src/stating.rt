@@ -1,5 +1,5 @@
 //! Adds axioms and lemmas.
-ghost use Rattle.std.specs.Prelude.{◌≡◌, ◌<◌, [], List, length, true, IfOk, OnErr};
+ghost use Rattle.std.specs.Prelude.{◌≡◌, ◌<◌, [], List, length, IfOk, OnErr};
 ghost use Rattle.lt_definitions.specs.Items.{Context, axiom_item, lemma_item};
 ghost use Rattle.lt_definitions.specs.Terms.{TermTree};
 ghost use Rattle.lt_definitions.specs.Rules.{Sequent};

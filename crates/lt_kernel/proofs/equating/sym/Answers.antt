@@ -1,11 +1,12 @@
 use Rattle.std.proofs.Common.{ap}
 use Rattle.lt_store.specs.Trees.{trees}
-use Rattle.lt_kernel.proofs.Outcomes.{gives-later, sym-gives}
+use Rattle.lt_nameless.proofs.NamelessRuleLemmas.{sym-gives}
+use Rattle.lt_kernel.proofs.Outcomes.{gives-later}
 use Rattle.lt_kernel.proofs.equating.sym.Goals as goal
 
 pub returns-clause-step : goal.returns-clause-step
 returns-clause-step g c =
     let old = g.S.TermStore.nodes c.args.store.now in
     gives-later _ _ c.in_ok-hyps.hyps c.in_ok-concl.concl _ _ _ c.in_ok-concl.ensures.kept
-    (sym-gives _ c.args.i _ c.in-Some.ensures.is _ _ _ (rw c.in-Some-2.is at c.in_ok-sides.ensures.parts))
-    (rw c.in_ok-hyps.ensures c.in-Some.ensures.within.0) (ap (trees old) c.in_ok-hyps.ensures) c.in_ok-concl.ensures.made c.in_ok-concl.ensures.is
+    (sym-gives _ c.args.i _ c.in_ok-from.ensures.finds _ _ _ c.in_ok-sides.ensures.finds)
+    (rw c.in_ok-hyps.ensures c.in_ok-from.ensures.within.0) (ap (trees old) c.in_ok-hyps.ensures) c.in_ok-concl.ensures.made c.in_ok-concl.ensures.is

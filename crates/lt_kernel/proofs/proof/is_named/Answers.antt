@@ -1,6 +1,6 @@
 use Rattle.std.proofs.Common.{◌∙◌, sym, ap, is_some}
-use Rattle.lt_types.proofs.Substitutions.{looked_up}
-use Rattle.lt_terms.proofs.Lookups.{copied-some}
+use Rattle.lt_types.proofs.MapLemmas.{looked_up}
+use Rattle.lt_types.proofs.NameTables.{copied-some}
 use Rattle.lt_kernel.proofs.proof.is_named.Goals as goal
 
 pub returns : goal.returns

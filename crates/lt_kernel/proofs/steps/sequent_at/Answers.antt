@@ -1,5 +1,5 @@
 use Rattle.std.proofs.Common.{Some, None}
-use Rattle.lt_kernel.proofs.Numbers.{sequent-line, sequent-within}
+use Rattle.lt_kernel.proofs.LineNumbers.{sequent-line, sequent-within}
 use Rattle.lt_kernel.proofs.steps.sequent_at.Goals as goal
 
 pub returns-in-Some : goal.returns-in-Some

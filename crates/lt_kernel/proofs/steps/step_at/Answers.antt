@@ -1,4 +1,4 @@
-use Rattle.lt_kernel.proofs.Numbers.{number-past, number-read}
+use Rattle.lt_kernel.proofs.LineNumbers.{number-past, number-read}
 use Rattle.lt_kernel.proofs.steps.step_at.Goals as goal
 
 pub returns-then-number-steps : goal.returns-then-number-steps

@@ -10,9 +10,9 @@ returns-in-Err-clause-derives c = λ ctx done stands has.
 pub returns-in-Ok-apply-clause-derives : goal.returns-in-Ok-apply-clause-derives
 returns-in-Ok-apply-clause-derives c = λ ctx done stands has.
     line-added ctx done (rule_of (trees c.args.lines.now.nodes) c.args.line.now) c.args.proof.now c.store_line.new.proof c.apply.new.self c.in-Ok.stored c.in-Ok-apply.number
-    stands has c.in-Ok.ensures.kept c.in-Ok.ensures.stores c.in-Ok-apply.ensures
+    stands has c.in-Ok.ensures.kept c.in-Ok.ensures.stores c.in-Ok-apply.ensures.answers
 
 pub returns-in-Err-Bad-clause-derives : goal.returns-in-Err-Bad-clause-derives
-returns-in-Err-Bad-clause-derives c = λ ctx done stands has. let told = rw c.in-Err-Bad.field-0-is at c.in-Err-Bad.ensures in
+returns-in-Err-Bad-clause-derives c = λ ctx done stands has. let told = rw c.in-Err-Bad.field-0-is at c.in-Err-Bad.ensures.answers in
     line-bad ctx done (rule_of (trees c.args.lines.now.nodes) c.args.line.now) c.args.proof.now c.store_line.new.proof c.apply.new.self c.in-Ok.stored c.in-Err-Bad.field-0-0
     stands has c.in-Ok.ensures.kept c.in-Ok.ensures.stores told.0

@@ -1,7 +1,8 @@
 use Rattle.std.proofs.Common.{length}
 use Rattle.lt_hol.specs.Lines.{trees, rule_of, is_within}
+use Rattle.lt_kernel.proofs.GrowingLemmas.{stays-on}
 use Rattle.lt_theory.proofs.Known.{stands-still}
-use Rattle.lt_theory.proofs.LineOutcomes.{still, line-within, derived-next, derived-wrong}
+use Rattle.lt_theory.proofs.LineOutcomes.{line-within, derived-next, derived-wrong}
 use Rattle.lt_theory.proofs.derivation.add_lines.Goals as goal
 
 pub add_line-requires : goal.add_line-requires
@@ -14,7 +15,7 @@ returns-in-Err-clause-derives c = λ ctx stands. let now = stands-still ctx c.ar
 
 pub loop-i-preserved : goal.loop-i-preserved
 loop-i-preserved c = record {
-  stays = still c.args.proof.now c.loop-i.proof c.add_line.new.proof c.loop-i.invariant.stays c.in-Ok.ensures.stays;
+  stays = stays-on c.args.proof.now c.loop-i.proof c.add_line.new.proof c.loop-i.invariant.stays c.in-Ok.ensures.stays;
   derived = λ ctx stands. let now = stands-still ctx c.args.proof.now c.loop-i.proof stands c.loop-i.invariant.stays in
       derived-next ctx (rule_of (trees c.args.lines.now.nodes)) c.args.lines.now.lines c.loop-i.i c.in-Ok.number c.at.result.now c.loop-i.proof c.add_line.new.proof now c.at.ensures
       (c.loop-i.invariant.derived ctx stands) (λ done has. c.in-Ok.ensures.derives ctx done now has);

@@ -1,9 +1,9 @@
 use Rattle.std.proofs.Common.{◌≡◌, ◌∙◌, sym, ap, is_some, false, List, ℕ, ◌<◌, ◌++◌, ◌∷◌, [], length, subst}
 use Rattle.lt_definitions.specs.Types.{Chars, found}
-use Rattle.lt_terms.proofs.Lookups.{inserted-new, none-found}
+use Rattle.lt_types.proofs.NameTables.{inserted-new, none-found}
 use Rattle.lt_kernel.specs.State.{State}
 use Rattle.lt_kernel.specs.Sequents.{NamedWithin}
-use Rattle.lt_kernel.proofs.States.{named-push}
+use Rattle.lt_kernel.proofs.StateLemmas.{named-push}
 use Rattle.lt_kernel.proofs.proof.Proof.add_statement.Goals as goal
 
 pub invariant_of-self-2 : goal.invariant_of-self-2

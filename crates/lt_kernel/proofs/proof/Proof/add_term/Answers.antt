@@ -1,18 +1,15 @@
-use Rattle.std.proofs.Common.{subst}
-use Rattle.lt_kernel.specs.State.{State, Keeps}
-use Rattle.lt_kernel.proofs.States.{state, keeps}
+use Rattle.lt_kernel.proofs.StateLemmas.{keeps-seen}
+use Rattle.lt_kernel.proofs.GrowingLemmas.{keeps-carries}
 use Rattle.lt_kernel.proofs.proof.Proof.add_term.Goals as goal
 
-pub returns-in_err-id-clause-kept : goal.returns-in_err-id-clause-kept
-returns-in_err-id-clause-kept g c =
-    let inside = c.self.inside in
-    let new = g.S.TermStore.nodes c.to_store.new.store in
-    subst (λ (s : State). Keeps s (state new inside.signature inside.named.entries inside.steps.items)) c.self.view_is
-    (keeps _ new inside.signature inside.named.entries inside.steps.items c.in_err-id.ensures.kept c.self.invariant.steps c.self.invariant.named)
+pub returns-in_err-id-clause-keeps : goal.returns-in_err-id-clause-keeps
+returns-in_err-id-clause-keeps g c = keeps-seen _ _ (g.S.TermStore.nodes c.to_store.new.store) _ _ _ c.self.view_is c.in_err-id.ensures.kept c.self.invariant.steps c.self.invariant.named
 
-pub returns-clause-kept : goal.returns-clause-kept
-returns-clause-kept g c =
-    let inside = c.self.inside in
-    let new = g.S.TermStore.nodes c.to_store.new.store in
-    subst (λ (s : State). Keeps s (state new inside.signature inside.named.entries inside.steps.items)) c.self.view_is
-    (keeps _ new inside.signature inside.named.entries inside.steps.items c.in_ok-id.ensures.kept c.self.invariant.steps c.self.invariant.named)
+pub returns-in_err-id-clause-carries : goal.returns-in_err-id-clause-carries
+returns-in_err-id-clause-carries g c = keeps-carries _ _ (returns-in_err-id-clause-keeps g c)
+
+pub returns-clause-keeps : goal.returns-clause-keeps
+returns-clause-keeps g c = keeps-seen _ _ (g.S.TermStore.nodes c.to_store.new.store) _ _ _ c.self.view_is c.in_ok-id.ensures.kept c.self.invariant.steps c.self.invariant.named
+
+pub returns-clause-carries : goal.returns-clause-carries
+returns-clause-carries g c = keeps-carries _ _ (returns-clause-keeps g c)

@@ -4,11 +4,13 @@ use Rattle.lt_kernel.specs.declared.sequent.Step.{Step}
 use Rattle.lt_kernel.specs.Lines.{rule_at}
 use Rattle.lt_kernel.specs.Sequents.{sequents_at, statements_at, Gives}
 use Rattle.lt_kernel.specs.State.{State, Keeps, AddsLine, Answers, step_of}
-use Rattle.lt_kernel.proofs.States.{state, keeps, adds-line, answers-fault, answers-memory}
+use Rattle.lt_kernel.proofs.StateLemmas.{state, keeps, adds-line, answers-fault, answers-memory}
+use Rattle.lt_kernel.proofs.GrowingLemmas.{answers-carries}
+use Rattle.lt_kernel.proofs.ReachingLemmas.{answers-reaches}
 use Rattle.lt_kernel.proofs.proof.Proof.apply.Goals as goal
 
-pub returns-in-Err : goal.returns-in-Err
-returns-in-Err g c =
+pub returns-in-Err-clause-answers : goal.returns-in-Err-clause-answers
+returns-in-Err-clause-answers g c =
     let inside = c.self.inside in
     let old = g.S.TermStore.nodes inside.store in
     let new = g.S.TermStore.nodes c.derive.new.store in
@@ -19,8 +21,8 @@ returns-in-Err g c =
     subst AtOld c.self.view_is (answers-fault (state old inside.signature inside.named.entries steps) (state new inside.signature inside.named.entries steps) c.args.line.now c.in-Err.fault _ made
     (keeps old new inside.signature inside.named.entries steps c.in-Err.ensures.kept c.self.invariant.steps c.self.invariant.named))
 
-pub returns-in_err-number : goal.returns-in_err-number
-returns-in_err-number g c =
+pub returns-in_err-number-clause-answers : goal.returns-in_err-number-clause-answers
+returns-in_err-number-clause-answers g c =
     let inside = c.self.inside in
     let old = g.S.TermStore.nodes inside.store in
     let new = g.S.TermStore.nodes c.derive.new.store in
@@ -30,8 +32,8 @@ returns-in_err-number g c =
     let AtOld : State → Type 0 = λ p. Answers p (state new inside.signature inside.named.entries c.add_step.new.steps.items) c.args.line.now c.from_residual.result (step_of p c.args.line.now) in
     subst AtOld c.self.view_is (answers-memory (state old inside.signature inside.named.entries steps) (state new inside.signature inside.named.entries c.add_step.new.steps.items) c.args.line.now c.from_residual.result _ c.from_residual.ensures.1 kept)
 
-pub returns : goal.returns
-returns g c =
+pub returns-clause-answers : goal.returns-clause-answers
+returns-clause-answers g c =
     let inside = c.self.inside in
     let old = g.S.TermStore.nodes inside.store in
     let new = g.S.TermStore.nodes c.derive.new.store in
@@ -45,3 +47,29 @@ returns g c =
     let AtNew : List Step → Type 0 = λ k. AddsLine (state old inside.signature inside.named.entries steps) (state new inside.signature inside.named.entries k) c.args.line.now (outcome steps) c.in_ok-number.number in
     let AtOld : State → Type 0 = λ p. AddsLine p (state new inside.signature inside.named.entries c.add_step.new.steps.items) c.args.line.now (step_of p c.args.line.now) c.in_ok-number.number in
     subst AtOld c.self.view_is (subst AtNew (sym c.in_ok-number.ensures.ok) added)
+
+pub returns-in-Err-clause-carries : goal.returns-in-Err-clause-carries
+returns-in-Err-clause-carries g c = answers-carries _ _ _ (Err c.in-Err.fault) c.requires (returns-in-Err-clause-answers g c)
+
+pub returns-in_err-number-clause-carries : goal.returns-in_err-number-clause-carries
+returns-in_err-number-clause-carries g c = answers-carries _ _ _ _ c.requires (returns-in_err-number-clause-answers g c)
+
+pub returns-clause-carries : goal.returns-clause-carries
+returns-clause-carries g c = answers-carries _ _ _ (Ok c.in_ok-number.number) c.requires (returns-clause-answers g c)
+
+pub returns-in-Err-clause-reaches : goal.returns-in-Err-clause-reaches
+returns-in-Err-clause-reaches g c =
+    let inside = c.self.inside in
+    let old = c.args.self.now in
+    answers-reaches old (state (g.S.TermStore.nodes c.derive.new.store) inside.signature inside.named.entries inside.steps.items) c.args.line.now
+    (Err c.in-Err.fault) (step_of old c.args.line.now) (returns-in-Err-clause-answers g c)
+
+pub returns-in_err-number-clause-reaches : goal.returns-in_err-number-clause-reaches
+returns-in_err-number-clause-reaches g c = answers-reaches _ _ _ _ _ (returns-in_err-number-clause-answers g c)
+
+pub returns-clause-reaches : goal.returns-clause-reaches
+returns-clause-reaches g c =
+    let inside = c.self.inside in
+    let old = c.args.self.now in
+    answers-reaches old (state (g.S.TermStore.nodes c.derive.new.store) inside.signature inside.named.entries c.add_step.new.steps.items) c.args.line.now
+    (Ok c.in_ok-number.number) (step_of old c.args.line.now) (returns-clause-answers g c)

@@ -5,19 +5,21 @@ use Rattle.std.proofs.lemmas.List.{map-append}
 use Rattle.std.proofs.lemmas.List.Elements.{All-append, All-cons, All-nil}
 use Rattle.lt_definitions.specs.Types.{Chars}
 use Rattle.lt_definitions.specs.Typing.{Signature}
+use Rattle.lt_definitions.specs.Rules.{line_at}
 use Rattle.lt_nameless.specs.Nameless.{Nameless}
 use Rattle.lt_nameless.specs.NamelessRules.{NamelessOutcome}
 use Rattle.lt_hol.specs.declared.line.Line.{Line}
 use Rattle.lt_store.specs.declared.node.Node.{Node}
 use Rattle.lt_store.specs.Trees.{tree_at, Extends}
-use Rattle.lt_store.proofs.Trees.{tree_at-extends}
+use Rattle.lt_store.proofs.TreeLemmas.{tree_at-extends}
 use Rattle.lt_store.proofs.Lists.{trees-extends}
 use Rattle.lt_kernel.specs.declared.sequent.Sequent.{Sequent}
 use Rattle.lt_kernel.specs.declared.sequent.Step.{Step}
 use Rattle.lt_kernel.specs.Sequents.{sequent_at, sequents_at, statements_at, IsWithin, AreWithin, NamedWithin, Gives}
 use Rattle.lt_kernel.specs.declared.rule_fault.RuleFault.{RuleFault}
 use Rattle.lt_kernel.specs.declared.rule_fault.RuleFault.TheVariants.{Bad, Duplicate, Memory}
-use Rattle.lt_kernel.specs.State.{State, Keeps, AddsLine, Answers}
+use Rattle.lt_kernel.specs.State.{State, sequents, Keeps, AddsLine, Answers}
+use Rattle.lt_kernel.proofs.LineNumbers.{line-last, length-last, as-many-lines}
 
 sequent-extends : (old new : List Node) (s : Sequent) → Extends old new → IsWithin (length old) s → sequent_at new s ≡ sequent_at old s
 sequent-extends old new s e h =
@@ -62,19 +64,28 @@ keeps old new sig named steps e h k = record {
   sequents = sequents-extends old new steps e h;
 }
 
+-- the same of a state that is seen of those parts
+pub keeps-seen : (p : State) (old new : List Node) (sig : Signature) (named : List (Chars × ℕ)) (steps : List Step) → state old sig named steps ≡ p
+    → Extends old new → AreWithin (length old) steps → NamedWithin (length old) named → Keeps p (state new sig named steps)
+keeps-seen p old new sig named steps is e h k = subst (λ (s : State). Keeps s (state new sig named steps)) is (keeps old new sig named steps e h k)
+
 -- the store has grown, and a line was added
 pub adds-line : (old new : List Node) (sig : Signature) (named : List (Chars × ℕ)) (steps : List Step) (step : Step) (by : Line) (outcome : NamelessOutcome) (n : ℕ)
     → Extends old new → AreWithin (length old) steps → NamedWithin (length old) named → step.line ≡ by → Gives new (Ok step.sequent) outcome → n ≡ length (steps ++ step ∷ [])
     → AddsLine (state old sig named steps) (state new sig named (steps ++ step ∷ [])) by outcome n
-adds-line old new sig named steps step by outcome n e h k line made number = record {
-  stays = record { nodes = e; signature = refl; named = refl; statements = statements-extends old new named e k };
-  step = step;
-  line = line;
-  gives = made.0;
-  steps = refl;
-  sequents = map-append (λ (s : Step). sequent_at new s.sequent) steps (step ∷ []) ∙ ap (λ gs. gs ++ sequent_at new step.sequent ∷ []) (sequents-extends old new steps e h);
-  number = number;
-}
+adds-line old new sig named steps step by outcome n e h k line made number =
+    let last : sequents_at new (steps ++ step ∷ []) ≡ sequents_at old steps ++ sequent_at new step.sequent ∷ [] =
+    map-append (λ (s : Step). sequent_at new s.sequent) steps (step ∷ []) ∙ ap (λ gs. gs ++ sequent_at new step.sequent ∷ []) (sequents-extends old new steps e h) in
+    let count : n ≡ suc (length (sequents_at old steps)) = number ∙ length-last steps step ∙ ap suc (sym (as-many-lines (state old sig named steps))) in record {
+      stays = record { nodes = e; signature = refl; named = refl; statements = statements-extends old new named e k };
+      step = step;
+      line = line;
+      gives = made.0;
+      steps = refl;
+      sequents = last;
+      number = number;
+      there = ap (λ ss. line_at ss n) last ∙ line-last (sequents_at old steps) (sequent_at new step.sequent) n count;
+    }
 
 -- the store has grown, and the rule's reason, or want of memory, is answered
 pub answers-fault : (old new : State) (by : Line) (e : RuleFault) (outcome : NamelessOutcome) → Gives new.nodes (Err e) outcome → Keeps old new → Answers old new by (Err e) outcome
