@@ -1,7 +1,7 @@
 -- What is new in a table of types are parts of given types.
 use Rattle.std.proofs.Common.{◌≡◌, ℕ, ◌-◌, ◌⊎◌, inl, inr, List, [], ◌∷◌, ◌++◌, length, map, take, drop, slice_get, Some, Bool, true, false, ◌||◌, refl, ap, sym, ◌∙◌, subst, append_assoc, append-nil}
 use Rattle.std.specs.List.{list_all}
-use Rattle.std.proofs.lemmas.Bool.{and_parts, and_from, or_cases}
+use Rattle.std.proofs.lemmas.Bool.{and_parts, and_from, or_cases, or_left, or_right}
 use Rattle.std.proofs.lemmas.List.{map-append, take-append-drop}
 use Rattle.std.proofs.lemmas.List.Folds.{list_all-append}
 use Rattle.std.proofs.lemmas.Option.{get_or_from_slice_get}
@@ -13,13 +13,6 @@ use Rattle.lt_definitions.specs.Types.{TypeTree, TypeMap, type_variable, type_co
 use Rattle.lt_definitions.proofs.SameNames.{true-type}
 use Rattle.lt_hol.specs.TypeTables.{is_part, is_part_of_some, ExtendsBy, type_at, types_at}
 
-or-left : (a b : Bool) → a ≡ true → (a || b) ≡ true
-or-left a b h = ap (λ (c : Bool). c || b) h
-
-or-right : (a b : Bool) → b ≡ true → (a || b) ≡ true
-or-right true b h = refl
-or-right false b h = h
-
 or-assoc : (a b c : Bool) → (a || (b || c)) ≡ ((a || b) || c)
 or-assoc true b c = refl
 or-assoc false b c = refl
@@ -27,10 +20,10 @@ or-assoc false b c = refl
 part-self : (t : TypeTree) → is_part t t ≡ true
 part-self (type_variable x) = true-type (type_variable x) (type_variable x) refl
 part-self (type_constructor c us) =
-    or-left (same_type (type_constructor c us) (type_constructor c us)) (is_part_of_some (type_constructor c us) us) (true-type (type_constructor c us) (type_constructor c us) refl)
+    or_left (same_type (type_constructor c us) (type_constructor c us)) (is_part_of_some (type_constructor c us) us) (true-type (type_constructor c us) (type_constructor c us) refl)
 
 pub one-part : (t : TypeTree) → list_all (λ u. is_part_of_some u (row (t ∷ []))) (t ∷ []) ≡ true
-one-part t = and_from _ _ (or-left (is_part t t) false (part-self t)) refl
+one-part t = and_from _ _ (or_left (is_part t t) false (part-self t)) refl
 
 -- ---- parts of lists of types
 
@@ -39,10 +32,10 @@ some-append t [] ys = refl
 some-append t (x ∷ xs) ys = ap (λ (b : Bool). is_part t x || b) (some-append t xs ys) ∙ or-assoc (is_part t x) (is_part_of_some t (row xs)) (is_part_of_some t (row ys))
 
 some-left : (t : TypeTree) (xs ys : List TypeTree) → is_part_of_some t (row xs) ≡ true → is_part_of_some t (row (xs ++ ys)) ≡ true
-some-left t xs ys h = some-append t xs ys ∙ or-left (is_part_of_some t (row xs)) (is_part_of_some t (row ys)) h
+some-left t xs ys h = some-append t xs ys ∙ or_left (is_part_of_some t (row xs)) (is_part_of_some t (row ys)) h
 
 some-right : (t : TypeTree) (xs ys : List TypeTree) → is_part_of_some t (row ys) ≡ true → is_part_of_some t (row (xs ++ ys)) ≡ true
-some-right t xs ys h = some-append t xs ys ∙ or-right (is_part_of_some t (row xs)) (is_part_of_some t (row ys)) h
+some-right t xs ys h = some-append t xs ys ∙ or_right (is_part_of_some t (row xs)) (is_part_of_some t (row ys)) h
 
 -- what is a part of some types is one of those that a node makes of them
 pub part-grow : (t : TypeTree) (before : List TypeTree) (n : TyNode) → is_part_of_some t (row before) ≡ true → is_part_of_some t (row (grow before n)) ≡ true
@@ -60,7 +53,7 @@ part-grow t before (Con c ids) h =
     by : (is_part_of_some t (row kept) ≡ true) ⊎ (is_part_of_some t (row args) ≡ true) → is_part_of_some t (row (kept ++ type_constructor c (row args) ∷ [])) ≡ true
     by (inl l) = some-left t kept (type_constructor c (row args) ∷ []) l
     by (inr r) = some-right t kept (type_constructor c (row args) ∷ [])
-        (or-left (is_part t (type_constructor c (row args))) false (or-right (same_type t (type_constructor c (row args))) (is_part_of_some t (row args)) r))
+        (or_left (is_part t (type_constructor c (row args))) false (or_right (same_type t (type_constructor c (row args))) (is_part_of_some t (row args)) r))
 
 -- the same where types were put for variables
 pub part-grow-instance : (m : TypeMap) (t : TypeTree) (before : List TypeTree) (n : TyNode) → is_part_of_some t (row (map (type_instance m) before)) ≡ true

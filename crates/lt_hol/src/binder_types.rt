@@ -8,7 +8,8 @@ use lt_terms::{Binder, Term, TermNode, binders};
 use lt_types::Memory;
 use std::alloc::Global;
 
-/// For each node of a term the number of the type of its binder, if it is a bound name that has one.
+/// For each node of a term the number of the type of its binder, if it is a bound name that has
+/// one.
 pub(crate) fn bound_types(
     alloc: Global,
     table: &mut TypeTable,

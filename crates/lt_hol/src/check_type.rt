@@ -40,9 +40,11 @@ impl Signature {
         }
     }
 
-    /// `UnknownType` or `Arity` for the first wrong constructor from the left, a constructor before its arguments.
+    /// `UnknownType` or `Arity` for the first wrong constructor from the left, a constructor before
+    /// its arguments.
     ///
-    /// The nodes are read from the last to the first, so a node to the left comes later and takes precedence.
+    /// The nodes are read from the last to the first, so a node to the left comes later and takes
+    /// precedence.
     /// Below a wrong constructor nothing is tested.
     pub fn check_type(&self, alloc: Global, ty: &Ty) -> Result<(), TypeFault>
         ensures { Checks (type_fault self.now ty.now) result }

@@ -15,7 +15,8 @@ use lt_types::{Memory, Name, Ty, TyNode};
 use std::alloc::Global;
 
 impl TypeTable {
-    /// The number of a declared type with types put for its variables, in order of first appearance.
+    /// The number of a declared type with types put for its variables, in order of first
+    /// appearance.
     /// None where they are not as many as its variables.
     ///
     /// It takes time linear in the declared type and the list, where a look-up counts as one.
@@ -26,9 +27,11 @@ impl TypeTable {
         args: &[usize],
     ) -> Result<Option<usize>, Memory>
         requires { all_below (length self.old) args.now ≡ true }
-        ensures ok { IfOk result (λ id. IsInstance self.new declared.now (types_at self.old args.now) id) }
+        ensures ok { IfOk result
+            (λ id. IsInstance self.new declared.now (types_at self.old args.now) id) }
         ensures grows { Extends self.old self.new }
-        ensures added { IfOk result (λ _. ExtendsBy (at_types declared.now (types_at self.old args.now) ∷ []) self.old self.new) }
+        ensures added { IfOk result (λ _. ExtendsBy (at_types declared.now
+            (types_at self.old args.now) ∷ []) self.old self.new) }
     {
         let variables = type_variables(alloc, declared)?;
         if variables.len() != args.len() {
@@ -47,9 +50,12 @@ impl TypeTable {
     ) -> Result<usize, Memory>
         requires below { all_below (length self.old) args.now ≡ true }
         requires count { length variables.now.keys ≡ length args.now }
-        ensures ok { IfOk result (λ id. slice_get self.new id ≡ Some (type_instance (zip variables.now.keys (types_at self.old args.now)) declared.now)) }
+        ensures ok { IfOk result (λ id. slice_get self.new id
+            ≡ Some (type_instance (zip variables.now.keys
+            (types_at self.old args.now)) declared.now)) }
         ensures grows { Extends self.old self.new }
-        ensures added { IfOk result (λ _. ExtendsBy (type_instance (zip variables.now.keys (types_at self.old args.now)) declared.now ∷ []) self.old self.new) }
+        ensures added { IfOk result (λ _. ExtendsBy (type_instance (zip variables.now.keys
+            (types_at self.old args.now)) declared.now ∷ []) self.old self.new) }
     {
         let mut numbers = Vec::new(alloc);
         for node in declared.nodes() {
@@ -70,7 +76,8 @@ impl TypeTable {
         requires below { all_below (length self.old) numbers.items ≡ true }
         requires room { HasRoom (types_at self.old numbers.items) node.now }
         requires argument { ForSome argument (λ id. id < length self.old) }
-        ensures types { IfOk result (λ v. types_at self.new v.items ≡ grown_by self.old (types_at self.old numbers.items) node.now argument) }
+        ensures types { IfOk result (λ v. types_at self.new v.items
+            ≡ grown_by self.old (types_at self.old numbers.items) node.now argument) }
         ensures below { IfOk result (λ v. all_below (length self.new) v.items ≡ true) }
         ensures grows { Extends self.old self.new }
         ensures added { IfOk result (λ v. ExtendsBy (types_at self.new v.items) self.old self.new) }

@@ -4,7 +4,8 @@ use lt_terms::Term;
 use lt_types::{List, Memory, Name, TryCopy, Ty};
 use std::alloc::Global;
 
-/// An item of a plain theory: one command's worth, with its parts in the order of the command's text.
+/// An item of a plain theory: one command's worth, with its parts in the order of the command's
+/// text.
 #[derive(Debug, Drop)]
 pub enum Item {
     /// A type with its arity.
@@ -15,7 +16,8 @@ pub enum Item {
     Axiom(Name, Term),
     /// A constant, its type and its body.
     Def(Name, Ty, Term),
-    /// A type, its parameters, its predicate, the label of the statement that the predicate holds somewhere,
+    /// A type, its parameters, its predicate, the label of the statement that the predicate holds
+    /// somewhere,
     /// and the constants into the type and back.
     Typedef(Name, List<Name>, Term, Name, Name, Name),
     /// A label, its statement and the lines that derive it.

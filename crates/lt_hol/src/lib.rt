@@ -2,6 +2,7 @@
 #![tactic(auto)]
 
 mod binder_types;
+mod built_in;
 mod check_type;
 mod form_part;
 mod instance;

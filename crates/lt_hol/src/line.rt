@@ -2,7 +2,8 @@
 use lt_types::{Memory, Name, TryCopy, Ty};
 use std::alloc::Global;
 
-/// A line of a derivation: a rule of the kernel with its arguments, in the order of the rule's text.
+/// A line of a derivation: a rule of the kernel with its arguments, in the order of the rule's
+/// text.
 ///
 /// A term is named by its place among the nodes of the lines, or by its id in a store.
 /// An earlier line is named by its number, from 1.

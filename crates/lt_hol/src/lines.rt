@@ -39,7 +39,8 @@ impl Lines {
         ensures ok { OnOk result (self.new.nodes ≡ self.old.nodes ++ node ∷ []) }
         ensures err { OnErr result (self.new.nodes ≡ self.old.nodes) }
         ensures lines { self.new.lines ≡ self.old.lines }
-        ensures rules { rules_of self.new.nodes self.new.lines ≡ rules_of self.old.nodes self.old.lines }
+        ensures rules { rules_of self.new.nodes self.new.lines
+            ≡ rules_of self.old.nodes self.old.lines }
     {
         let place = self.nodes.len();
         self.nodes.push(alloc, node)?;
@@ -50,10 +51,8 @@ impl Lines {
     pub fn push(&mut self, alloc: Global, line: Line) -> Result<(), Memory>
         requires { is_within (length self.old.nodes) line ≡ true }
         ensures ok { OnOk result (self.new.lines ≡ self.old.lines ++ line ∷ []) }
-        ensures rules {
-            OnOk result (rules_of self.new.nodes self.new.lines
-                ≡ rules_of self.old.nodes self.old.lines ++ rule_of (trees self.old.nodes) line ∷ [])
-        }
+        ensures rules { OnOk result (rules_of self.new.nodes self.new.lines
+            ≡ rules_of self.old.nodes self.old.lines ++ rule_of (trees self.old.nodes) line ∷ []) }
         ensures err { OnErr result (self.new.lines ≡ self.old.lines) }
         ensures nodes { self.new.nodes ≡ self.old.nodes }
     {

@@ -34,9 +34,11 @@ impl TypeTable {
     }
 }
 
-/// Puts down that the arguments of a number's node are to be made, the first one next, and then the node.
+/// Puts down that the arguments of a number's node are to be made, the first one next, and then the
+/// node.
 fn put_tasks(tasks: Vec<Making>, id: usize, node: &TyNode) -> Result<Vec<Making>, Memory>
-    ensures { IfOk result (λ v. reverse v.items ≡ wholes (numbers_of node.now) ++ RootOf id ∷ reverse tasks.items) }
+    ensures { IfOk result (λ v. reverse v.items
+        ≡ wholes (numbers_of node.now) ++ RootOf id ∷ reverse tasks.items) }
 {
     let mut tasks = tasks;
     tasks.push(Making::Root(id))?;

@@ -15,7 +15,8 @@ pub(crate) enum Task {
     Make(usize),
 }
 
-/// The term at a place of nodes that have their children before them. It takes time linear in that term, as a tree.
+/// The term at a place of nodes that have their children before them. It takes time linear in that
+/// term, as a tree.
 pub(crate) fn term_at(alloc: Global, nodes: &[TermNode], place: usize) -> Result<Term, Memory>
     requires order { are_in_order 0 nodes.now ≡ true }
     requires place { place < length nodes.now }

@@ -5,13 +5,15 @@ ghost use Rattle.lt_definitions.specs.Types.{found};
 ghost use Rattle.lt_definitions.specs.Typing.{built_in};
 ghost use Rattle.lt_hol.specs.Faults.{DeclaresType, DeclaresConst, with_type, with_const, cut};
 
+use crate::built_in::{built_in_consts, built_in_types};
 use crate::type_fault::TypeFault;
 use indexmap::IndexMap;
 use lt_types::{Memory, Name, TryCopy, Ty};
 use std::alloc::Global;
 use std::marker::Model;
 
-/// The declared types with their arities, and the declared constants with their types, in order of declaration.
+/// The declared types with their arities, and the declared constants with their types, in order of
+/// declaration.
 ///
 /// A look-up by name takes constant time.
 #[derive(Debug, Drop)]
@@ -106,34 +108,4 @@ impl Signature {
         self.types.truncate(mark.types);
         self.consts.truncate(mark.constants);
     }
-}
-
-/// The built-in types: `bool`, and `fun` of two arguments.
-fn built_in_types(alloc: Global) -> Result<IndexMap<Name, usize>, Memory>
-    ensures { IfOk result (λ m. m.entries ≡ built_in.types) }
-{
-    let mut types = IndexMap::new(alloc);
-    types.insert(Name::word(alloc, "bool")?, 0)?;
-    types.insert(Name::word(alloc, "fun")?, 2)?;
-    Ok(types)
-}
-
-/// The built-in constants: equality, implication, the universal quantifier and choice.
-fn built_in_consts(alloc: Global) -> Result<IndexMap<Name, Ty>, Memory>
-    ensures { IfOk result (λ m. m.entries ≡ built_in.consts) }
-{
-    let a = Ty::var(alloc, Name::word(alloc, "a")?)?;
-    let bool = Ty::bool(alloc)?;
-    let test = Ty::fun(alloc, a.copy(alloc)?, bool.copy(alloc)?)?;
-    let relation = Ty::fun(alloc, a.copy(alloc)?, test.copy(alloc)?)?;
-    let operator = Ty::fun(alloc, bool.copy(alloc)?, bool.copy(alloc)?)?;
-    let connective = Ty::fun(alloc, bool.copy(alloc)?, operator)?;
-    let quantifier = Ty::fun(alloc, test.copy(alloc)?, bool)?;
-    let choice = Ty::fun(alloc, test, a)?;
-    let mut consts = IndexMap::new(alloc);
-    consts.insert(Name::word(alloc, "eq")?, relation)?;
-    consts.insert(Name::word(alloc, "imp")?, connective)?;
-    consts.insert(Name::word(alloc, "all")?, quantifier)?;
-    consts.insert(Name::word(alloc, "eps")?, choice)?;
-    Ok(consts)
 }

@@ -13,7 +13,8 @@ use std::marker::Model;
 /// Distinct types, which contracts see as a list. A type's number is its place in the list.
 ///
 /// Two types of one table are equal exactly where their numbers are.
-/// A call that wants memory may leave types behind that it made on the way; those that were there stay.
+/// A call that wants memory may leave types behind that it made on the way; those that were there
+/// stay.
 #[derive(Debug, Drop)]
 pub struct TypeTable {
     nodes: IndexSet<TyNode>,
@@ -70,7 +71,8 @@ impl TypeTable {
         requires { is_below (length self.old) node ≡ true }
         ensures ok { IfOk result (λ id. slice_get self.new id ≡ Some (made_of self.old node)) }
         ensures grows { Extends self.old self.new }
-        ensures added { IfOk result (λ _. ExtendsBy (made_of self.old node ∷ []) self.old self.new) }
+        ensures added { IfOk result
+            (λ _. ExtendsBy (made_of self.old node ∷ []) self.old self.new) }
     {
         let (id, _) = self.nodes.insert_full(node)?;
         Ok(id)
@@ -91,9 +93,11 @@ impl TypeTable {
     pub fn fun(&mut self, alloc: Global, from: usize, to: usize) -> Result<usize, Memory>
         requires from { from < length self.old }
         requires to { to < length self.old }
-        ensures ok { IfOk result (λ id. slice_get self.new id ≡ Some (fun (type_at self.old from) (type_at self.old to))) }
+        ensures ok { IfOk result (λ id. slice_get self.new id
+            ≡ Some (fun (type_at self.old from) (type_at self.old to))) }
         ensures grows { Extends self.old self.new }
-        ensures added { IfOk result (λ _. ExtendsBy (fun (type_at self.old from) (type_at self.old to) ∷ []) self.old self.new) }
+        ensures added { IfOk result (λ _. ExtendsBy (fun (type_at self.old from)
+            (type_at self.old to) ∷ []) self.old self.new) }
     {
         let name = self.fun.copy(alloc)?;
         let args = List::from_vec(vec![in alloc; from, to]?);
@@ -103,7 +107,8 @@ impl TypeTable {
     /// The numbers of argument and result, where the type is one of functions.
     pub fn as_fun(&self, id: usize) -> Option<(usize, usize)>
         requires { id < length self.now }
-        ensures parts { option_map (λ p. (type_at self.now p.0, type_at self.now p.1)) result ≡ function_parts (type_at self.now id) }
+        ensures parts { option_map (λ p. (type_at self.now p.0, type_at self.now p.1)) result
+            ≡ function_parts (type_at self.now id) }
         ensures within { IfSome result (λ p. (p.0 < length self.now) × (p.1 < length self.now)) }
     {
         node_parts(&self.fun, &self.nodes[id])
@@ -118,7 +123,8 @@ impl TypeTable {
     ) -> Result<Vec<usize>, Memory>
         requires below { all_below (length self.old) numbers.items ≡ true }
         requires room { HasRoom (types_at self.old numbers.items) node.now }
-        ensures types { IfOk result (λ v. types_at self.new v.items ≡ grow (types_at self.old numbers.items) node.now) }
+        ensures types { IfOk result (λ v. types_at self.new v.items
+            ≡ grow (types_at self.old numbers.items) node.now) }
         ensures below { IfOk result (λ v. all_below (length self.new) v.items ≡ true) }
         ensures grows { Extends self.old self.new }
         ensures added { IfOk result (λ v. ExtendsBy (types_at self.new v.items) self.old self.new) }

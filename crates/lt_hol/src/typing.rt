@@ -16,11 +16,14 @@ use lt_types::{List, Memory, Name, TryCopy, Ty};
 use std::alloc::Global;
 
 impl Signature {
-    /// The type of a term, or its first fault in the order of the text: a binder's type comes before its body,
+    /// The type of a term, or its first fault in the order of the text: a binder's type comes
+    /// before its body,
     /// a function before its argument, and both before their application.
     ///
-    /// `Unbound`, `UnknownConst`, `TypeArgs`, as `check_type`, and `Mismatch` with the types of a function and its argument.
-    /// It takes time linear in the term, in the declared types of its constants and in what is answered, where a look-up counts as one.
+    /// `Unbound`, `UnknownConst`, `TypeArgs`, as `check_type`, and `Mismatch` with the types of a
+    /// function and its argument.
+    /// It takes time linear in the term, in the declared types of its constants and in what is
+    /// answered, where a look-up counts as one.
     pub fn type_of(&self, alloc: Global, t: &Term) -> Result<Ty, TypeFault>
         ensures { Gives (typed self.now [] t.now) result }
     {
@@ -59,7 +62,9 @@ impl Signature {
         hint: Option<usize>,
     ) -> Result<Vec<Outcome>, Memory>
         requires { AreWithin (length table.old) (reverse outcomes.items) }
-        ensures outcomes { IfOk result (λ v. (rs : ListOf Typed) (bound : Maybe TypeTree) → AreOutcomes table.old (reverse outcomes.items) rs → IsHint table.old hint bound → AreOutcomes table.new (reverse v.items) (typed_step self.now rs node.now bound)) }
+        ensures outcomes { IfOk result (λ v. (rs : ListOf Typed) (bound : Maybe TypeTree)
+            → AreOutcomes table.old (reverse outcomes.items) rs → IsHint table.old hint bound
+            → AreOutcomes table.new (reverse v.items) (typed_step self.now rs node.now bound)) }
         ensures grows { Extends table.old table.new }
     {
         match node {
@@ -82,7 +87,8 @@ impl Signature {
 
     /// What is known of a thing that has a given type.
     pub fn of_type(&self, alloc: Global, table: &mut TypeTable, ty: &Ty) -> Result<Outcome, Memory>
-        ensures outcome { IfOk result (λ o. IsOutcome table.new o (unless (type_fault self.now ty.now) (Fine ty.now))) }
+        ensures outcome { IfOk result
+            (λ o. IsOutcome table.new o (unless (type_fault self.now ty.now) (Fine ty.now))) }
         ensures grows { Extends table.old table.new }
         ensures added { IfOk result (λ _. ExtendsBy (ty.now ∷ []) table.old table.new) }
     {
@@ -100,7 +106,9 @@ impl Signature {
         name: &Name,
         types: &List<Ty>,
     ) -> Result<Outcome, Memory>
-        ensures outcome { IfOk result (λ o. IsOutcome table.new o (constant_type self.now name.now types.now (declared_type self.now name.now))) }
+        ensures outcome { IfOk result
+            (λ o. IsOutcome table.new o (constant_type self.now name.now types.now
+            (declared_type self.now name.now))) }
         ensures grows { Extends table.old table.new }
     {
         match self.const_type(name) {
@@ -118,7 +126,9 @@ impl Signature {
         declared: &Ty,
         types: &List<Ty>,
     ) -> Result<Outcome, Memory>
-        ensures outcome { IfOk result (λ o. IsOutcome table.new o (constant_type self.now name.now types.now (Just declared.now))) }
+        ensures outcome { IfOk result
+            (λ o. IsOutcome table.new o (constant_type self.now name.now types.now
+            (Just declared.now))) }
         ensures grows { Extends table.old table.new }
     {
         let args = intern_all(alloc, table, types.as_slice())?;
@@ -153,7 +163,9 @@ impl Signature {
         ty: &Ty,
     ) -> Result<Vec<Outcome>, Memory>
         requires { AreWithin (length table.old) (reverse outcomes.items) }
-        ensures outcomes { IfOk result (λ v. (rs : ListOf Typed) → AreOutcomes table.old (reverse outcomes.items) rs → AreOutcomes table.new (reverse v.items) (abstracted_outcomes self.now ty.now rs)) }
+        ensures outcomes { IfOk result (λ v. (rs : ListOf Typed)
+            → AreOutcomes table.old (reverse outcomes.items) rs
+            → AreOutcomes table.new (reverse v.items) (abstracted_outcomes self.now ty.now rs)) }
         ensures grows { Extends table.old table.new }
     {
         let mut outcomes = outcomes;
@@ -173,7 +185,9 @@ impl Signature {
         body: Outcome,
     ) -> Result<Outcome, Memory>
         requires { IsWithin (length table.old) body }
-        ensures outcome { IfOk result (λ o. (r : Typed) → IsOutcome table.old body r → IsOutcome table.new o (unless (type_fault self.now ty.now) (with_ok r (λ u. Fine (fun ty.now u))))) }
+        ensures outcome { IfOk result (λ o. (r : Typed) → IsOutcome table.old body r
+            → IsOutcome table.new o (unless (type_fault self.now ty.now) (with_ok r
+            (λ u. Fine (fun ty.now u))))) }
         ensures grows { Extends table.old table.new }
     {
         match self.check_type(alloc, ty) {
@@ -191,7 +205,8 @@ fn under_binder(
     body: Outcome,
 ) -> Result<Outcome, Memory>
     requires { IsWithin (length table.old) body }
-    ensures outcome { IfOk result (λ o. (r : Typed) → IsOutcome table.old body r → IsOutcome table.new o (with_ok r (λ u. Fine (fun ty.now u)))) }
+    ensures outcome { IfOk result (λ o. (r : Typed) → IsOutcome table.old body r
+        → IsOutcome table.new o (with_ok r (λ u. Fine (fun ty.now u)))) }
     ensures grows { Extends table.old table.new }
 {
     match body {
@@ -203,7 +218,8 @@ fn under_binder(
 /// The number of the type of functions from a type to the type of a number.
 fn fun_from(alloc: Global, table: &mut TypeTable, ty: &Ty, to: usize) -> Result<usize, Memory>
     requires { to < length table.old }
-    ensures ok { IfOk result (λ id. slice_get table.new id ≡ Just (fun ty.now (type_at table.old to))) }
+    ensures ok { IfOk result (λ id. slice_get table.new id
+        ≡ Just (fun ty.now (type_at table.old to))) }
     ensures grows { Extends table.old table.new }
 {
     let from = table.intern(alloc, ty)?;
@@ -212,7 +228,8 @@ fn fun_from(alloc: Global, table: &mut TypeTable, ty: &Ty, to: usize) -> Result<
 
 /// What is known of a bound name, where the number of its binder's type is given.
 fn of_bound(alloc: Global, name: &Name, hint: Option<usize>) -> Result<Outcome, Memory>
-    ensures { IfOk result (λ o. (table : ListOf TypeTree) (bound : Maybe TypeTree) → IsHint table hint bound → IsOutcome table o (bound_type name.now bound)) }
+    ensures { IfOk result (λ o. (table : ListOf TypeTree) (bound : Maybe TypeTree)
+        → IsHint table hint bound → IsOutcome table o (bound_type name.now bound)) }
 {
     match hint {
         Some(id) => Ok(Outcome::Known(id)),
@@ -237,7 +254,8 @@ fn intern_all(alloc: Global, table: &mut TypeTable, types: &[Ty]) -> Result<Vec<
 /// The one outcome.
 fn last(outcomes: Vec<Outcome>) -> Outcome
     requires { 0 < length outcomes.items }
-    ensures { (table : ListOf TypeTree) (r : Typed) → AreOutcomes table (reverse outcomes.items) (r ∷ []) → IsOutcome table result r }
+    ensures { (table : ListOf TypeTree) (r : Typed)
+        → AreOutcomes table (reverse outcomes.items) (r ∷ []) → IsOutcome table result r }
 {
     let mut outcomes = outcomes;
     outcomes.pop().unwrap()
@@ -255,7 +273,9 @@ fn one_more(outcomes: Vec<Outcome>, outcome: Outcome) -> Result<Vec<Outcome>, Me
 /// Applies the last outcome but one to the last.
 fn apply_last(table: &TypeTable, outcomes: Vec<Outcome>) -> Result<Vec<Outcome>, Memory>
     requires { AreWithin (length table.now) (reverse outcomes.items) }
-    ensures { IfOk result (λ v. (rs : ListOf Typed) → AreOutcomes table.now (reverse outcomes.items) rs → AreOutcomes table.now (reverse v.items) (applied_outcomes rs)) }
+    ensures { IfOk result (λ v. (rs : ListOf Typed)
+        → AreOutcomes table.now (reverse outcomes.items) rs
+        → AreOutcomes table.now (reverse v.items) (applied_outcomes rs)) }
 {
     let mut outcomes = outcomes;
     let Some(argument) = outcomes.pop() else {
@@ -272,7 +292,9 @@ fn apply_to(
 ) -> Result<Vec<Outcome>, Memory>
     requires outcomes { AreWithin (length table.now) (reverse outcomes.items) }
     requires argument { IsWithin (length table.now) argument }
-    ensures { IfOk result (λ v. (s : Typed) (rs : ListOf Typed) → IsOutcome table.now argument s → AreOutcomes table.now (reverse outcomes.items) rs → AreOutcomes table.now (reverse v.items) (applied_outcomes (s ∷ rs))) }
+    ensures { IfOk result (λ v. (s : Typed) (rs : ListOf Typed) → IsOutcome table.now argument s
+        → AreOutcomes table.now (reverse outcomes.items) rs
+        → AreOutcomes table.now (reverse v.items) (applied_outcomes (s ∷ rs))) }
 {
     let mut outcomes = outcomes;
     let Some(function) = outcomes.pop() else {
@@ -285,7 +307,8 @@ fn apply_to(
 fn applied(table: &TypeTable, function: Outcome, argument: Outcome) -> Outcome
     requires function { IsWithin (length table.now) function }
     requires argument { IsWithin (length table.now) argument }
-    ensures { (r s : Typed) → IsOutcome table.now function r → IsOutcome table.now argument s → IsOutcome table.now result (with_ok r (λ t. with_ok s (λ u. applied_type t u))) }
+    ensures { (r s : Typed) → IsOutcome table.now function r → IsOutcome table.now argument s
+        → IsOutcome table.now result (with_ok r (λ t. with_ok s (λ u. applied_type t u))) }
 {
     match function {
         Outcome::Known(t) => applied_at(table, t, argument),
@@ -297,7 +320,8 @@ fn applied(table: &TypeTable, function: Outcome, argument: Outcome) -> Outcome
 fn applied_at(table: &TypeTable, t: usize, argument: Outcome) -> Outcome
     requires function { t < length table.now }
     requires argument { IsWithin (length table.now) argument }
-    ensures { (s : Typed) → IsOutcome table.now argument s → IsOutcome table.now result (with_ok s (λ u. applied_type (type_at table.now t) u)) }
+    ensures { (s : Typed) → IsOutcome table.now argument s
+        → IsOutcome table.now result (with_ok s (λ u. applied_type (type_at table.now t) u)) }
 {
     match argument {
         Outcome::Known(u) => applied_types(table, t, u),
@@ -309,7 +333,8 @@ fn applied_at(table: &TypeTable, t: usize, argument: Outcome) -> Outcome
 pub fn applied_types(table: &TypeTable, t: usize, u: usize) -> Outcome
     requires function { t < length table.now }
     requires argument { u < length table.now }
-    ensures { IsOutcome table.now result (applied_type (type_at table.now t) (type_at table.now u)) }
+    ensures { IsOutcome table.now result (applied_type (type_at table.now t)
+        (type_at table.now u)) }
 {
     match table.as_fun(t) {
         Some((from, to)) => {

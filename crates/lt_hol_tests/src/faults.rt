@@ -77,7 +77,7 @@ fn a_name_is_declared_once(rt: HostRuntime) -> Result<(), Fail> {
     let mut sig = Signature::new(rt.alloc())?;
     assert!(rt; refuses_a_second(rt.alloc(), &mut sig)?);
     let fault = sig.check_type(rt.alloc(), &constructor(rt.alloc(), "nat")?);
-    assert!(rt; matches!(fault, Err(TypeFault::UnknownType(c)) if c.text() == "nat"));
+    assert!(rt; matches!(&fault, Err(TypeFault::UnknownType(c)) if c.text() == "nat"));
     assert!(rt; sig.check_type(rt.alloc(), &Ty::bool(rt.alloc())?).is_ok());
     Ok(())
 }

@@ -1,6 +1,6 @@
 //! Maps on type variables, and matching.
 use crate::makers::{function, name, variable};
-use lt_hol::{Ty, TyMap, TryCopy, match_type, tsub};
+use lt_hol::{TryCopy, Ty, TyMap, match_type, tsub};
 use std::alloc::Global;
 use std::test::Fail;
 
@@ -42,7 +42,10 @@ fn matches(alloc: Global, pattern: &Ty, ty: &Ty) -> Result<bool, Fail> {
 
 #[test]
 fn a_pattern_matches_its_instances(rt: HostRuntime) -> Result<(), Fail> {
-    let (own, other) = (function(rt.alloc(), "a", "a")?, function(rt.alloc(), "a", "b")?);
+    let (own, other) = (
+        function(rt.alloc(), "a", "a")?,
+        function(rt.alloc(), "a", "b")?,
+    );
     assert!(rt; matches(rt.alloc(), &other, &own)?);
     assert!(rt; !matches(rt.alloc(), &own, &other)?);
     Ok(())

@@ -47,8 +47,11 @@ fn applied(alloc: Global) -> Result<Term, Fail> {
 /// How many terms there are where a second one and a node follow a first.
 fn count(alloc: Global, t: &Term) -> Result<usize, Fail> {
     let builder = TermBuilder::after(alloc, t.copy(alloc)?)?.term(alloc, t)?;
-    let node = TermNode::Bound(name(alloc, "x")?);
-    Ok(builder.node(alloc, node.copy(alloc)?)?.len())
+    Ok(
+        builder
+            .node(alloc, TermNode::Bound(name(alloc, "x")?))?
+            .len(),
+    )
 }
 
 #[test]
@@ -65,7 +68,12 @@ fn an_abstraction_is_opened_and_closed(rt: HostRuntime) -> Result<(), Fail> {
     let (t, x) = (identity(rt.alloc(), "y")?, truth(rt.alloc(), "x")?);
     let opened = open_binder(rt.alloc(), &t, &x)?.ok_or("no abstraction")?;
     assert!(rt; alpha_eq(rt.alloc(), &opened, &x)?);
-    let closed = close_free(rt.alloc(), &x, &name(rt.alloc(), "x")?, &Ty::bool(rt.alloc())?)?;
+    let closed = close_free(
+        rt.alloc(),
+        &x,
+        &name(rt.alloc(), "x")?,
+        &Ty::bool(rt.alloc())?,
+    )?;
     assert!(rt; alpha_eq(rt.alloc(), &closed, &t)?);
     Ok(())
 }
@@ -73,7 +81,13 @@ fn an_abstraction_is_opened_and_closed(rt: HostRuntime) -> Result<(), Fail> {
 #[test]
 fn one_variable_is_replaced(rt: HostRuntime) -> Result<(), Fail> {
     let (x, y) = (truth(rt.alloc(), "x")?, truth(rt.alloc(), "y")?);
-    let put = subst_free(rt.alloc(), &x, &name(rt.alloc(), "x")?, &Ty::bool(rt.alloc())?, &y)?;
+    let put = subst_free(
+        rt.alloc(),
+        &x,
+        &name(rt.alloc(), "x")?,
+        &Ty::bool(rt.alloc())?,
+        &y,
+    )?;
     assert!(rt; alpha_eq(rt.alloc(), &put, &y)?);
     Ok(())
 }

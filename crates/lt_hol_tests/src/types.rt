@@ -1,6 +1,6 @@
 //! Types, builders of types, and new type variables.
-use crate::makers::{constructor, function, name, variable};
-use lt_hol::{Ty, TyBuilder, TyNode, TryCopy, are_clear, long_names, longest, variables};
+use crate::makers::{constructor, function, name, one, variable};
+use lt_hol::{TryCopy, Ty, TyBuilder, TyNode, are_clear, long_names, longest, variables};
 use std::alloc::Global;
 use std::test::Fail;
 
@@ -57,14 +57,15 @@ fn new_variables_are_longer(rt: HostRuntime) -> Result<(), Fail> {
     let names = long_names(rt.alloc(), 1, 2)?;
     let types = variables(rt.alloc(), names.as_slice())?;
     assert_eq!(rt; types.len(), 2);
-    assert_eq!(rt; longest(names.as_slice(), [].as_slice()), 3);
+    assert_eq!(rt; longest(names.as_slice(), types.as_slice()), 3);
     assert!(rt; !are_clear(names.as_slice(), types.as_slice()));
     Ok(())
 }
 
 #[test]
 fn a_type_may_have_none_of_the_names(rt: HostRuntime) -> Result<(), Fail> {
-    let names = [name(rt.alloc(), "b")?];
-    assert!(rt; are_clear(names.as_slice(), [variable(rt.alloc(), "a")?].as_slice()));
+    let names = long_names(rt.alloc(), 1, 1)?;
+    let types = one(rt.alloc(), variable(rt.alloc(), "a")?)?;
+    assert!(rt; are_clear(names.as_slice(), types.as_slice()));
     Ok(())
 }

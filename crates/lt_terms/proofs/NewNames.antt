@@ -9,7 +9,7 @@ use Rattle.lt_definitions.specs.Terms.{TermTree, free_variable, bound_name, cons
 use Rattle.lt_definitions.specs.Binding.{opened, replaced, Closes, longest, new_binder, closed_over}
 use Rattle.lt_nameless.specs.Nameless.{nameless, nameless_abstraction}
 use Rattle.lt_nameless.specs.NamelessRules.{abstracted}
-use Rattle.lt_definitions.proofs.SameNames.{true-false, bool_cases, both-true, name-true, true-name, false-name, type-true}
+use Rattle.lt_definitions.proofs.SameNames.{bool_cases, both-true, name-true, true-name, false-name, type-true}
 use Rattle.lt_nameless.proofs.Alphas.{alpha-nameless, nameless-alpha}
 use Rattle.lt_nameless.proofs.BindingLemmas.{if-true, if-false, closed-nameless, new_is_longer}
 use Rattle.lt_nameless.proofs.Closings.{closings_are_alpha}

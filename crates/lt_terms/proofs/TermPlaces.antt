@@ -1,11 +1,11 @@
 -- What stands at each place of a term's nodes.
-use Rattle.std.proofs.Common.{◌≡◌, ℕ, zero, suc, ◌+◌, ◌<◌, ◌≤◌, List, [], ◌∷◌, ◌++◌, length, take, slice_get, Some, refl, sym, ◌∙◌, ap, subst, arith, append_assoc, append-nil, length-append}
+use Rattle.std.proofs.Common.{◌≡◌, ℕ, ◌+◌, ◌<◌, ◌≤◌, List, [], ◌∷◌, ◌++◌, length, take, slice_get, Some, refl, sym, ◌∙◌, ap, subst, arith, append_assoc, append-nil, length-append}
 use Rattle.std.proofs.Math.Seq.{take-append_seam}
 use Rattle.lt_terms.specs.declared.term.TermNode.{TermNode}
 use Rattle.lt_terms.specs.declared.term.TermNode.TheVariants.{Free, Bound, Const, App, Lam}
 use Rattle.lt_definitions.specs.Types.{Chars, TypeTree}
 use Rattle.lt_definitions.specs.Terms.{TermTree, free_variable, bound_name, constant, application, abstraction}
-use Rattle.lt_terms.specs.Layout.{under, term_nodes, grow, forest, first}
+use Rattle.lt_terms.specs.Layout.{under, term_nodes, forest, first}
 use Rattle.lt_terms.proofs.LayoutLemmas.{length-term_nodes, forest-term_nodes, forest-append, regroup}
 use Rattle.lt_types.proofs.Places.{AllPlaces, places-append, at-place}
 

@@ -7,14 +7,16 @@ use crate::term::Term;
 use lt_types::Memory;
 use std::alloc::Global;
 
-/// The binder of a bound name: its place among the term's nodes, and how many binders lie between it and the name.
+/// The binder of a bound name: its place among the term's nodes, and how many binders lie between
+/// it and the name.
 #[derive(Clone, Copy, Debug, PartialEq, Eq)]
 pub struct Binder {
     pub place: usize,
     pub index: usize,
 }
 
-/// For each node of a term, in the order of its nodes, the innermost binder of its name, if it is a bound name that has a binder.
+/// For each node of a term, in the order of its nodes, the innermost binder of its name, if it is a
+/// bound name that has a binder.
 ///
 /// It takes time linear in the nodes, where a look-up counts as one.
 pub fn binders(alloc: Global, t: &Term) -> Result<Vec<Option<Binder>>, Memory>

@@ -17,10 +17,8 @@ use std::alloc::Global;
 /// It takes time linear in the term and in the names of its binders.
 pub fn close_free(alloc: Global, t: &Term, name: &Name, ty: &Ty) -> Result<Term, Memory>
     ensures closes { IfOk result (Closes name.now ty.now t.now) }
-    ensures nameless {
-        IfOk result (λ r. nameless [] r
-            ≡ nameless_abstraction ty.now (abstracted 0 name.now ty.now (nameless [] t.now)))
-    }
+    ensures nameless { IfOk result (λ r. nameless [] r
+        ≡ nameless_abstraction ty.now (abstracted 0 name.now ty.now (nameless [] t.now))) }
 {
     let binder = unused_name(alloc, t, name)?;
     let bound = Term::bound(alloc, binder.copy(alloc)?)?;

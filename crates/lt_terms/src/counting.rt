@@ -9,7 +9,8 @@ use lt_types::Ty;
 
 /// How many nodes a term has, those of its types too, or 2^64 - 1 where there are more.
 ///
-/// It takes time linear in the nodes of the term alone and the lengths of its constants' lists of types.
+/// It takes time linear in the nodes of the term alone and the lengths of its constants' lists of
+/// types.
 pub fn nodes(t: &Term) -> u64
     ensures { result ≡ min (term_nodes t.now) (2 ^ 64 - 1) }
 {

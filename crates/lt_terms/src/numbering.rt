@@ -44,7 +44,8 @@ fn push_parts(places: &mut Vec<usize>, node: &TermNode) -> Result<(), Memory>
 
 /// Numbers the type variables of a node.
 fn number_node(alloc: Global, map: TyMap, node: &TermNode) -> Result<TyMap, Memory>
-    ensures { IfOk result (λ m. (later all : List Chars) → IsUnderway map (node_names node.now ++ later) all → IsUnderway m later all) }
+    ensures { IfOk result (λ m. (later all : List Chars)
+        → IsUnderway map (node_names node.now ++ later) all → IsUnderway m later all) }
 {
     match node {
         TermNode::Free(_, ty) => number_type(alloc, map, ty),
@@ -56,7 +57,8 @@ fn number_node(alloc: Global, map: TyMap, node: &TermNode) -> Result<TyMap, Memo
 
 /// Numbers the type variables of types.
 fn number_types(alloc: Global, map: TyMap, types: &List<Ty>) -> Result<TyMap, Memory>
-    ensures { IfOk result (λ m. (later all : List Chars) → IsUnderway map (types_names (row types.now) ++ later) all → IsUnderway m later all) }
+    ensures { IfOk result (λ m. (later all : List Chars)
+        → IsUnderway map (types_names (row types.now) ++ later) all → IsUnderway m later all) }
 {
     let mut map = map;
     for ty in types.as_slice() {
@@ -67,7 +69,8 @@ fn number_types(alloc: Global, map: TyMap, types: &List<Ty>) -> Result<TyMap, Me
 
 /// Numbers the type variables of a type.
 fn number_type(alloc: Global, map: TyMap, ty: &Ty) -> Result<TyMap, Memory>
-    ensures { IfOk result (λ m. (later all : List Chars) → IsUnderway map (type_names ty.now ++ later) all → IsUnderway m later all) }
+    ensures { IfOk result (λ m. (later all : List Chars)
+        → IsUnderway map (type_names ty.now ++ later) all → IsUnderway m later all) }
 {
     let mut map = map;
     for node in ty.nodes() {
@@ -78,7 +81,8 @@ fn number_type(alloc: Global, map: TyMap, ty: &Ty) -> Result<TyMap, Memory>
 
 /// Numbers the type variable of a node, if it is one.
 fn number_variable(alloc: Global, map: TyMap, node: &TyNode) -> Result<TyMap, Memory>
-    ensures { IfOk result (λ m. (later all : List Chars) → IsUnderway map (variable_names node.now ++ later) all → IsUnderway m later all) }
+    ensures { IfOk result (λ m. (later all : List Chars)
+        → IsUnderway map (variable_names node.now ++ later) all → IsUnderway m later all) }
 {
     match node {
         TyNode::Var(name) => number_name(alloc, map, name),
@@ -88,7 +92,8 @@ fn number_variable(alloc: Global, map: TyMap, node: &TyNode) -> Result<TyMap, Me
 
 /// Numbers a type variable, if it has no number yet.
 fn number_name(alloc: Global, map: TyMap, name: &Name) -> Result<TyMap, Memory>
-    ensures { IfOk result (λ m. (later all : List Chars) → IsUnderway map (name.now ∷ later) all → IsUnderway m later all) }
+    ensures { IfOk result (λ m. (later all : List Chars) → IsUnderway map (name.now ∷ later) all
+        → IsUnderway m later all) }
 {
     if map.get(name).is_some() {
         return Ok(map);
@@ -99,7 +104,8 @@ fn number_name(alloc: Global, map: TyMap, name: &Name) -> Result<TyMap, Memory>
 /// Gives the next number to a type variable that has none.
 fn add_number(alloc: Global, map: TyMap, name: &Name) -> Result<TyMap, Memory>
     requires { found name.now map ≡ None }
-    ensures { IfOk result (λ m. (later all : List Chars) → IsUnderway map (name.now ∷ later) all → IsUnderway m later all) }
+    ensures { IfOk result (λ m. (later all : List Chars) → IsUnderway map (name.now ∷ later) all
+        → IsUnderway m later all) }
 {
     let mut map = map;
     let image = numbered_variable(alloc, map.len() + 1)?;

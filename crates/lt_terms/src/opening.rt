@@ -10,7 +10,8 @@ use crate::term_builder::TermBuilder;
 use lt_types::{Memory, TryCopy};
 use std::alloc::Global;
 
-/// The body of an abstraction with another term put for the bound names of its binder; None where the term is no abstraction.
+/// The body of an abstraction with another term put for the bound names of its binder; None where
+/// the term is no abstraction.
 ///
 /// It takes time linear in the term and in what is answered, where a look-up counts as one.
 pub fn open_binder(alloc: Global, lam: &Term, by: &Term) -> Result<Option<Term>, Memory>
@@ -39,7 +40,8 @@ fn is_lambda(node: &TermNode) -> bool
     }
 }
 
-/// The body of an abstraction with another term put for the bound names of its binder, which stands at the root.
+/// The body of an abstraction with another term put for the bound names of its binder, which stands
+/// at the root.
 fn opened_body(alloc: Global, lam: &Term, by: &Term) -> Result<Term, Memory>
     requires { is_abstraction lam.now ≡ true }
     ensures { IfOk result (λ t. opening lam.now by.now ≡ Some t) }

@@ -17,7 +17,8 @@ pub(crate) enum Task {
     Close,
 }
 
-/// The trees that are still to come, which contracts see as the list of the binders around each, the next one first.
+/// The trees that are still to come, which contracts see as the list of the binders around each,
+/// the next one first.
 #[derive(Debug, Drop)]
 pub(crate) struct Pending {
     scope: Scope,
@@ -50,7 +51,8 @@ impl Pending {
         })
     }
 
-    /// Takes the last node of the next tree, which stands at a place. The node's parts come in its stead.
+    /// Takes the last node of the next tree, which stands at a place. The node's parts come in its
+    /// stead.
     pub(crate) fn visit(
         self,
         alloc: Global,
@@ -58,7 +60,8 @@ impl Pending {
         at: usize,
     ) -> Result<(Pending, Option<Binder>), Memory>
         requires { 0 < length self }
-        ensures { IfOk result (λ r. (around : Places) (later : List Places) → self ≡ around ∷ later → (r.0 ≡ within at node.now around later) × (r.1 ≡ binder_at around node.now)) }
+        ensures { IfOk result (λ r. (around : Places) (later : List Places) → self ≡ around ∷ later
+            → (r.0 ≡ within at node.now around later) × (r.1 ≡ binder_at around node.now)) }
     {
         let Pending { scope, tasks } = self;
         let (scope, tasks) = next_tree(scope, tasks)?;
@@ -70,7 +73,8 @@ impl Pending {
 /// Closes the binders that are done, and takes the next tree.
 fn next_tree(scope: Scope, tasks: Vec<Task>) -> Result<(Scope, Vec<Task>), Memory>
     requires { 0 < length (scopes_of scope (reverse tasks.items)) }
-    ensures { IfOk result (λ r. scopes_of scope (reverse tasks.items) ≡ r.0 ∷ scopes_of r.0 (reverse r.1.items)) }
+    ensures { IfOk result (λ r. scopes_of scope (reverse tasks.items)
+        ≡ r.0 ∷ scopes_of r.0 (reverse r.1.items)) }
 {
     let mut scope = scope;
     let mut tasks = tasks;
@@ -91,7 +95,8 @@ fn descend(
     node: &TermNode,
     at: usize,
 ) -> Result<Pending, Memory>
-    ensures { IfOk result (λ p. p ≡ within at node.now scope (scopes_of scope (reverse tasks.items))) }
+    ensures { IfOk result (λ p. p
+        ≡ within at node.now scope (scopes_of scope (reverse tasks.items))) }
 {
     let mut tasks = tasks;
     match node {

@@ -33,7 +33,9 @@ fn put(
     by: &Term,
 ) -> Result<TermBuilder, Memory>
     requires { HasRoom builder node.now }
-    ensures { IfOk result (λ b. (before : List TermTree) → builder ≡ map (replaced name.now ty.now by.now) before → b ≡ map (replaced name.now ty.now by.now) (grow before node.now)) }
+    ensures { IfOk result (λ b. (before : List TermTree)
+        → builder ≡ map (replaced name.now ty.now by.now) before
+        → b ≡ map (replaced name.now ty.now by.now) (grow before node.now)) }
 {
     if is_free(node, name, ty) {
         return Ok(builder.term(alloc, by)?);

@@ -8,8 +8,10 @@ use lt_types::{List, Memory, Name, TryCopy, Ty};
 use std::alloc::Global;
 use std::marker::Model;
 
-/// A node of a term: a free variable with its type, a bound name, a constant with its type arguments,
-/// an application with the places of function and argument, or an abstraction with the place of its body.
+/// A node of a term: a free variable with its type, a bound name, a constant with its type
+/// arguments,
+/// an application with the places of function and argument, or an abstraction with the place of its
+/// body.
 #[derive(Debug, Drop)]
 pub enum TermNode {
     Free(Name, Ty),

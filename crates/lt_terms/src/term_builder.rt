@@ -8,7 +8,8 @@ use lt_types::{List, Memory, Name, TryCopy, Ty};
 use std::alloc::Global;
 use std::marker::Model;
 
-/// Terms that are being made, which contracts see as the list of those made so far, the last one first.
+/// Terms that are being made, which contracts see as the list of those made so far, the last one
+/// first.
 ///
 /// It is the way to make a term in time linear in its nodes, however deep it is.
 #[derive(Debug, Drop)]

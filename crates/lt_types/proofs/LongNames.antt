@@ -1,7 +1,6 @@
 -- Names that are one letter, repeated.
-use Rattle.std.proofs.Common.{◌≡◌, ℕ, zero, suc, ◌+◌, ◌<◌, ◌≤◌, List, [], ◌∷◌, ◌++◌, Bool, true, replicate, refl, sym, ◌∙◌, ap, arith, add-one}
+use Rattle.std.proofs.Common.{◌≡◌, ℕ, zero, suc, ◌+◌, ◌≤◌, List, [], ◌∷◌, ◌++◌, true, replicate, refl, sym, ◌∙◌, ap, arith, add-one}
 use Rattle.std.specs.Char.{encode_utf8, is_ascii_alphabetic}
-use Rattle.std.specs.List.{list_all}
 use Rattle.std.specs.Str.{chars}
 use Rattle.std.proofs.lemmas.Str.Ascii.{encode_ascii}
 use Rattle.lt_definitions.specs.Characters.{is_name}

@@ -1,9 +1,9 @@
 -- Maps on type variables: looking a name up, setting a pair, one pair for a name; substitution over the types of a list.
-use Rattle.std.proofs.Common.{◌≡◌, ◌∙◌, ℕ, zero, suc, ◌+◌, List, [], ◌∷◌, map, take, slice_get, refl, ap, sym, subst, if◌then◌else◌, nat_eq, Bool, true, false, not, ◌||◌, ◌&&◌, Some, add-one}
+use Rattle.std.proofs.Common.{◌≡◌, ◌∙◌, ℕ, zero, suc, ◌+◌, List, [], ◌∷◌, map, take, slice_get, refl, ap, sym, if◌then◌else◌, nat_eq, Bool, true, false, not, ◌||◌, Some, add-one}
 use Rattle.std.specs.Cmp.Lexicographic.{pointwise}
 use Rattle.std.specs.List.{AllByRecursion, IsDistinct}
-use Rattle.std.specs.Map.{lookup, keys_of}
-use Rattle.std.proofs.lemmas.Bool.{and_parts, and_from, or_from, true≢false}
+use Rattle.std.specs.Map.{lookup}
+use Rattle.std.proofs.lemmas.Bool.{and_parts, and_from, or_from, or_right, true≢false}
 use Rattle.std.proofs.lemmas.Option.{same_Some, none-some}
 use Rattle.std.proofs.lemmas.List.{length-map, take-map, drop-map, map-append}
 use Rattle.indexmap.specs.IndexMap.{insert_entry}
@@ -13,10 +13,6 @@ use Rattle.lt_definitions.specs.Types.{TypeTree, TypeMap, Chars, same_name, has_
 use Rattle.lt_definitions.proofs.SameNames.{name-true, true-name}
 use Rattle.lt_types.specs.Layout.{grow, HasRoom}
 use Rattle.lt_types.specs.Maps.{with_pair}
-
-either : (a b : Bool) → b ≡ true → (a || b) ≡ true
-either true b h = refl
-either false b h = h
 
 pub looked_up : {A : Type 0} (x : Chars) (es : List (Chars × A)) → lookup (pointwise nat_eq x) es ≡ found x es
 looked_up x [] = refl
@@ -45,7 +41,7 @@ module _ (p : Chars × TypeTree) (ps : TypeMap) where
       among : (qs : TypeMap) (j : ℕ) → slice_get qs j ≡ Some (x, t) → same_name p.0 x ≡ true → has_name p.0 (map (λ q. q.0) qs) ≡ true
       among [] j f s = absurd (none-some (x, t) f)
       among (q ∷ qs) zero f s = ap (λ (b : Bool). b || has_name p.0 (map (λ r. r.0) qs)) (ap (λ (r : Chars × TypeTree). same_name p.0 r.0) (same_Some q (x, t) f) ∙ s)
-      among (q ∷ qs) (suc j) f s = either (same_name p.0 q.0) (has_name p.0 (map (λ r. r.0) qs)) (among qs j f s)
+      among (q ∷ qs) (suc j) f s = or_right (same_name p.0 q.0) (has_name p.0 (map (λ r. r.0) qs)) (among qs j f s)
 
       by : (b : Bool) → same_name x p.0 ≡ b → same_name x p.0 ≡ false
       by false s = s

@@ -13,11 +13,13 @@ use crate::ty_builder::TyBuilder;
 use crate::ty_map::TyMap;
 use std::alloc::Global;
 
-/// The map on the pattern's variables that makes it the type, in order of first appearance; None where there is none.
+/// The map on the pattern's variables that makes it the type, in order of first appearance; None
+/// where there is none.
 ///
 /// It takes time linear in both: the only map that can serve is read off, then it is tried.
 pub fn match_type(alloc: Global, pattern: &Ty, ty: &Ty) -> Result<Option<TyMap>, Memory>
-    ensures { IfOk result (λ o. MatchOption o ((m : TypeMap) → Matches pattern.now m ty.now → ⊥) (λ m. Matches pattern.now m ty.now)) }
+    ensures { IfOk result (λ o. MatchOption o ((m : TypeMap) → Matches pattern.now m ty.now
+        → ⊥) (λ m. Matches pattern.now m ty.now)) }
 {
     let Some(pairs) = occurrences(alloc, pattern, ty)? else {
         return Ok(None);
@@ -45,9 +47,11 @@ fn firsts(alloc: Global, pairs: &[(Name, Ty)]) -> Result<TyMap, Memory>
     Ok(map)
 }
 
-/// What stands in the places of the pattern's variables, from the left; None where the type is no instance.
+/// What stands in the places of the pattern's variables, from the left; None where the type is no
+/// instance.
 fn occurrences(alloc: Global, pattern: &Ty, ty: &Ty) -> Result<Option<Vec<(Name, Ty)>>, Memory>
-    ensures { IfOk result (λ o. MatchOption o ((m : TypeMap) → type_instance m pattern.now ≡ ty.now → ⊥) (λ v. AreOccurrences pattern.now ty.now v.items)) }
+    ensures { IfOk result (λ o. MatchOption o ((m : TypeMap) → type_instance m pattern.now ≡ ty.now
+        → ⊥) (λ v. AreOccurrences pattern.now ty.now v.items)) }
 {
     let nodes = pattern.nodes();
     let mut pairs = Vec::new(alloc);
@@ -90,7 +94,8 @@ fn start_of(ty: &Ty, end: usize) -> usize
 fn part(alloc: Global, ty: &Ty, start: usize, end: usize) -> Result<Ty, Memory>
     requires within { end ≤ type_size ty.now }
     requires begins { BeginsAt (type_nodes 0 ty.now) end start }
-    ensures { IfOk result (λ t. forest [] (take end (type_nodes 0 ty.now)) ≡ forest [] (take start (type_nodes 0 ty.now)) ++ t ∷ []) }
+    ensures { IfOk result (λ t. forest [] (take end (type_nodes 0 ty.now))
+        ≡ forest [] (take start (type_nodes 0 ty.now)) ++ t ∷ []) }
 {
     let nodes = ty.nodes();
     let mut builder = TyBuilder::new(alloc);

@@ -23,7 +23,8 @@ use std::marker::Model;
 use std::rc::Rc;
 use unicode_ident::{is_xid_continue, is_xid_start};
 
-/// A name, which contracts see as its list of characters. A copy shares the text and takes constant time.
+/// A name, which contracts see as its list of characters. A copy shares the text and takes constant
+/// time.
 #[derive(Debug, Drop)]
 pub struct Name {
     text: Rc<String>,
@@ -48,10 +49,8 @@ impl Model for Name {
 impl Name {
     /// The name that the text is, if it is one.
     pub fn new(alloc: Global, text: &str) -> Result<Option<Name>, Memory>
-        ensures {
-            IfOk result (λ o. MatchOption o (is_name (chars text.now) ≡ false)
-                (λ n. (n ≡ chars text.now) × (is_name n ≡ true)))
-        }
+        ensures { IfOk result (λ o. MatchOption o (is_name (chars text.now) ≡ false)
+            (λ n. (n ≡ chars text.now) × (is_name n ≡ true))) }
     {
         if is_name(text) {
             Ok(Some(Name::word(alloc, text)?))

@@ -26,7 +26,9 @@ pub fn tsub(alloc: Global, ty: &Ty, by: &TyMap) -> Result<Ty, Memory>
 /// What a node makes of types whose variables were replaced.
 fn put(builder: TyBuilder, alloc: Global, node: &TyNode, by: &TyMap) -> Result<TyBuilder, Memory>
     requires { HasRoom builder node.now }
-    ensures { IfOk result (λ b. (before : List TypeTree) → builder ≡ map (type_instance by.now) before → b ≡ map (type_instance by.now) (grow before node.now)) }
+    ensures { IfOk result (λ b. (before : List TypeTree)
+        → builder ≡ map (type_instance by.now) before
+        → b ≡ map (type_instance by.now) (grow before node.now)) }
 {
     match node {
         TyNode::Var(name) => match by.get(name) {

@@ -70,7 +70,9 @@ impl TyBuilder {
     /// The last `count` types become the arguments of a constructor.
     pub fn con(self, _alloc: Global, name: Name, count: usize) -> Result<TyBuilder, Memory>
         requires { count ≤ length self }
-        ensures { IfOk result (λ b. b ≡ take (length self - count) self ++ type_constructor name (row (drop (length self - count) self)) ∷ []) }
+        ensures { IfOk result (λ b. b
+            ≡ take (length self - count) self ++ type_constructor name (row (drop
+            (length self - count) self)) ∷ []) }
     {
         let TyBuilder {
             mut nodes,

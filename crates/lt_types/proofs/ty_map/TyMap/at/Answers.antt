@@ -1,4 +1,4 @@
-use Rattle.std.proofs.Common.{◌≡◌, ◌∙◌, ap, sym, map, true, slice_get, Some}
+use Rattle.std.proofs.Common.{◌≡◌, ◌∙◌, ap, sym, map, slice_get, Some}
 use Rattle.std.specs.Map.{keys_of}
 use Rattle.lt_definitions.specs.Types.{TypeMap, are_distinct}
 use Rattle.lt_types.proofs.MapLemmas.{distinct-names, found-at}

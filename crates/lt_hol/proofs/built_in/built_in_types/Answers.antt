@@ -2,7 +2,7 @@ use Rattle.std.proofs.Common.{◌≡◌, ◌∙◌, ◌∷◌, [], nat_eq}
 use Rattle.std.specs.Cmp.Lexicographic.{pointwise}
 use Rattle.indexmap.specs.IndexMap.{insert_entry}
 use Rattle.lt_types.proofs.Words.{bool-word, bool-chars, fun-word, fun-chars}
-use Rattle.lt_hol.proofs.signature.built_in_types.Goals as goal
+use Rattle.lt_hol.proofs.built_in.built_in_types.Goals as goal
 
 pub word-requires : goal.word-requires
 word-requires c = bool-word
