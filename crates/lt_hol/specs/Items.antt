@@ -1,5 +1,5 @@
 -- Items with their types and terms as trees.
-use Rattle.lt_definitions.specs.Theory as theory
+use Rattle.lt_definitions.specs.Items as theory
 use Rattle.lt_hol.specs.Lines.{rules_of}
 use Rattle.lt_hol.specs.declared.item.Item.{Item}
 use Rattle.lt_hol.specs.declared.item.Item.TheVariants.{TypeDecl, ConstDecl, Axiom, Def, Typedef, Lemma}
