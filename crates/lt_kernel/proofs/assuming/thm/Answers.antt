@@ -18,6 +18,8 @@ pub returns : goal.returns
 returns g c =
     let ns = g.S.TermStore.nodes c.args._store.now in
     let at : found c.args.label.now c.args.named.now.entries ≡ Some c.in-Some.concl = sym (looked_up c.args.label.now c.args.named.now.entries) ∙ sym c.get.ensures.value ∙ sym c.copied.ensures ∙ c.in-Some.is in
-    record { step = gives-alone ns _ c.in-Some.concl _ _ c.without_hyps.ensures
-        (found-on _ _ _ _ (found-statement ns c.args.label.now c.args.named.now.entries ∙ ap (option_map (tree_at ns)) at))
-        (found-within _ c.args.label.now c.args.named.now.entries _ c.requires at) refl }
+    record {
+      step = gives-alone ns _ c.in-Some.concl _ _ c.without_hyps.ensures
+          (found-on _ _ _ _ (found-statement ns c.args.label.now c.args.named.now.entries ∙ ap (option_map (tree_at ns)) at))
+          (found-within _ c.args.label.now c.args.named.now.entries _ c.requires at) refl;
+    }
