@@ -1,5 +1,5 @@
 -- Proofs that grow: from none to any number of calls.
-use Rattle.std.proofs.Common.{◌≡◌, ℕ, List, [], ◌∷◌, ◌++◌, Result, Ok, Err, Some, None, refl, sym, ◌∙◌, ap, subst}
+use Rattle.std.proofs.Common.{◌≡◌, ℕ, List, [], ◌∷◌, ◌++◌, Result, Ok, Err, refl, sym, ◌∙◌, ap, subst}
 use Rattle.std.specs.List.{All}
 use Rattle.std.proofs.lemmas.List.{map-append}
 use Rattle.std.proofs.lemmas.List.Elements.{All-append, All-cons, All-nil}
@@ -8,12 +8,11 @@ use Rattle.lt_definitions.specs.Typing.{Signature}
 use Rattle.lt_definitions.specs.Rules.{line_at}
 use Rattle.lt_nameless.specs.Booleans.{IsSoundSignature}
 use Rattle.lt_nameless.specs.Nameless.{Nameless, NamelessSequent}
-use Rattle.lt_nameless.specs.NamelessRules.{NamelessOutcome, IsBooleanNameless, IsBooleanNamelessSequent}
+use Rattle.lt_nameless.specs.NamelessRules.{IsBooleanNameless, IsBooleanNamelessSequent}
 use Rattle.lt_nameless.proofs.NamelessBooleans.{nameless_rules_keep_booleans}
 use Rattle.lt_hol.specs.declared.line.Line.{Line}
 use Rattle.lt_store.specs.Trees.{tree_at}
 use Rattle.lt_store.proofs.TreeLemmas.{extends_same, extends_on}
-use Rattle.lt_kernel.specs.declared.sequent.Step.{Step}
 use Rattle.lt_kernel.specs.declared.rule_fault.RuleFault.{RuleFault}
 use Rattle.lt_kernel.specs.declared.rule_fault.RuleFault.TheVariants.{Bad, Duplicate, Memory}
 use Rattle.lt_kernel.specs.Lines.{rule_at, IsGoodLine}

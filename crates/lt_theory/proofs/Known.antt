@@ -1,5 +1,5 @@
 -- The named statements of a kernel's state and those of the context that it stands for.
-use Rattle.std.proofs.Common.{◌≡◌, ℕ, List, [], ◌∷◌, ◌++◌, Bool, true, false, if◌then◌else◌, map, is_some, Some, None, IsSome, refl, sym, ◌∙◌, ap, subst}
+use Rattle.std.proofs.Common.{◌≡◌, ℕ, List, [], ◌∷◌, ◌++◌, Bool, true, false, if◌then◌else◌, map, is_some, Some, None, IsSome, Result, Ok, Err, OnErr, refl, sym, ◌∙◌, ap, subst}
 use Rattle.std.proofs.lemmas.List.{map-append}
 use Rattle.lt_definitions.specs.Types.{Chars, same_name, found}
 use Rattle.lt_definitions.specs.Terms.{TermTree}
@@ -7,7 +7,9 @@ use Rattle.lt_definitions.specs.Items.{Context, with_statements}
 use Rattle.lt_definitions.specs.Theory.{duplicate, refused_where, new_name}
 use Rattle.lt_nameless.specs.Nameless.{Nameless, nameless}
 use Rattle.lt_store.specs.Trees.{tree_at}
-use Rattle.lt_kernel.specs.State.{State, Stays}
+use Rattle.lt_store.proofs.TreeLemmas.{extends_same}
+use Rattle.lt_kernel.specs.State.{State, Stays, Keeps}
+use Rattle.lt_kernel.proofs.GrowingLemmas.{stays-on}
 use Rattle.lt_theory.specs.Standing.{StandsFor}
 
 found-mapped : {A B : Type 0} (f : A → B) (l : Chars) (ps : List (Chars × A)) → is_some (found l (map (λ p. (p.0, f p.1)) ps)) ≡ is_some (found l ps)
@@ -52,3 +54,18 @@ name-added ctx old new label l id t e h i n k =
 
 pub name-known : (ctx : Context) (old : State) (label l : Chars) → l ≡ label → StandsFor ctx old → is_some (found l old.named) ≡ true → IsSome (new_name ctx.statements label)
 name-known ctx old label l e h k = subst (λ (m : Chars). IsSome (new_name ctx.statements m)) e (old-label ctx old l h k)
+
+-- what stays where the lines are dropped, further ones come, and a term is put into the store
+pub stays-cleared : (old mid more new : State) → mid ≡ record old { steps = [] } → Stays mid more → Keeps more new → Stays old new
+stays-cleared old mid more new e s k =
+    let cleared : Stays old mid = subst (Stays old) (sym e) (record { nodes = extends_same old.nodes; signature = refl; named = refl; statements = refl }) in
+    stays-on old more new (stays-on old mid more cleared s) k.stays
+
+-- .. told of an error
+pub on-err : {A E : Type 0} (r : Result A E) (P : Type 0) → P → OnErr r P
+on-err (Ok x) P h = tt
+on-err (Err e) P h = h
+
+pub on-err-same : {A E : Type 0} (r : Result A E) (old mid new : State) → OnErr r (new ≡ mid) → Stays old mid → OnErr r (Stays old new)
+on-err-same (Ok x) old mid new h s = tt
+on-err-same (Err e) old mid new h s = subst (Stays old) (sym h) s

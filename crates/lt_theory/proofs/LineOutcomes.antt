@@ -1,5 +1,5 @@
 -- What a kernel answers for a line, and what the line derives.
-use Rattle.std.proofs.Common.{◌≡◌, ℕ, zero, suc, ◌+◌, ◌≤◌, append_assoc, List, [], ◌∷◌, ◌++◌, length, map, drop, slice_get, Bool, true, Option, Some, None, option_map, IsSome, Ok, Err, refl, sym, ◌∙◌, ap, subst, arith}
+use Rattle.std.proofs.Common.{◌≡◌, ℕ, zero, suc, ◌+◌, ◌≤◌, List, [], ◌∷◌, ◌++◌, length, map, drop, slice_get, Bool, true, Option, Some, None, option_map, IsSome, Ok, Err, refl, sym, ◌∙◌, ap, subst, arith}
 use Rattle.std.specs.List.{list_all}
 use Rattle.std.proofs.lemmas.List.{map-append, drop_all}
 use Rattle.std.proofs.lemmas.Option.{slice_get-map}

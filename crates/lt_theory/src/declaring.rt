@@ -16,7 +16,8 @@ pub(crate) fn add_type(
     name: &Name,
     arity: usize,
 ) -> Result<(), Fault>
-    ensures adds { (ctx : Context) → StandsFor ctx proof.old → Adds ctx (type_item name.now arity) proof.new result }
+    ensures adds { (ctx : Context) → StandsFor ctx proof.old → Adds ctx
+        (type_item name.now arity) proof.new result }
     ensures kept { OnErr result (proof.new ≡ proof.old) }
 {
     let name = name.copy(alloc)?;
@@ -34,7 +35,8 @@ pub(crate) fn add_const(
     name: &Name,
     ty: &Ty,
 ) -> Result<(), Fault>
-    ensures adds { (ctx : Context) → StandsFor ctx proof.old → Adds ctx (const_item name.now ty.now) proof.new result }
+    ensures adds { (ctx : Context) → StandsFor ctx proof.old → Adds ctx
+        (const_item name.now ty.now) proof.new result }
     ensures kept { OnErr result (proof.new ≡ proof.old) }
 {
     let name = name.copy(alloc)?;

@@ -23,7 +23,8 @@ pub(crate) fn add_lines(
     requires { proof.old.steps ≡ [] }
     ensures stays { Stays proof.old proof.new }
     ensures count { IfOk result (λ n. n ≡ length proof.new.steps) }
-    ensures derives { (ctx : Context) → StandsFor ctx proof.old → DerivesLines ctx (rules_of lines.now.nodes lines.now.lines) proof.new result }
+    ensures derives { (ctx : Context) → StandsFor ctx proof.old → DerivesLines ctx
+        (rules_of lines.now.nodes lines.now.lines) proof.new result }
 {
     let mut count = 0;
     for i in 0..lines.len() {
@@ -45,7 +46,8 @@ fn add_line(
     requires { is_within (length lines.now.nodes) line.now ≡ true }
     ensures stays { Stays proof.old proof.new }
     ensures count { IfOk result (λ n. n ≡ length proof.new.steps) }
-    ensures derives { (ctx : Context) (done : List Sequent) → StandsFor ctx proof.old → HasSequents proof.old done
+    ensures derives { (ctx : Context) (done : List Sequent) → StandsFor ctx proof.old
+        → HasSequents proof.old done
         → DerivesLine ctx done (rule_of (trees lines.now.nodes) line.now) proof.new result }
 {
     let stored = match store_line(alloc, proof, lines, line) {

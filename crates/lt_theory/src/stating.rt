@@ -28,7 +28,8 @@ pub(crate) fn add_axiom(
     label: &Name,
     statement: &Term,
 ) -> Result<(), Fault>
-    ensures adds { (ctx : Context) → StandsFor ctx proof.old → Adds ctx (axiom_item label.now statement.now) proof.new result }
+    ensures adds { (ctx : Context) → StandsFor ctx proof.old → Adds ctx
+        (axiom_item label.now statement.now) proof.new result }
     ensures kept { OnErr result (Stays proof.old proof.new) }
 {
     check_statement(alloc, proof.signature(), statement)?;
@@ -44,7 +45,9 @@ pub(crate) fn add_lemma(
     statement: &Term,
     lines: &Lines,
 ) -> Result<(), Fault>
-    ensures adds { (ctx : Context) → StandsFor ctx proof.old → Adds ctx (lemma_item label.now statement.now (rules_of lines.now.nodes lines.now.lines)) proof.new result }
+    ensures adds { (ctx : Context) → StandsFor ctx proof.old → Adds ctx
+        (lemma_item label.now statement.now
+        (rules_of lines.now.nodes lines.now.lines)) proof.new result }
     ensures kept { OnErr result (Stays proof.old proof.new) }
 {
     check_statement(alloc, proof.signature(), statement)?;
@@ -84,7 +87,8 @@ fn name_statement(
     statement: Id,
 ) -> Result<(), Fault>
     requires { statement < length proof.old.nodes }
-    ensures names { (ctx : Context) (t : TermTree) → StandsFor ctx proof.old → tree_at proof.old.nodes statement ≡ nameless [] t
+    ensures names { (ctx : Context) (t : TermTree) → StandsFor ctx proof.old
+        → tree_at proof.old.nodes statement ≡ nameless [] t
         → Names ctx label.now t proof.new result }
     ensures kept { OnErr result (proof.new ≡ proof.old) }
 {
@@ -106,7 +110,9 @@ fn is_proved(
 ) -> Result<bool, Memory>
     requires last { last ≡ length proof.now.steps }
     requires statement { statement < length proof.now.nodes }
-    ensures { IfOk result (λ yes. (done : List Sequent) (t : TermTree) → HasSequents proof.now done → tree_at proof.now.nodes statement ≡ nameless [] t
+    ensures { IfOk result
+        (λ yes. (done : List Sequent) (t : TermTree) → HasSequents proof.now done
+        → tree_at proof.now.nodes statement ≡ nameless [] t
         → yes ≡ is_proved t (last_of done)) }
 {
     let Some(sequent) = proof.sequent(last) else {

@@ -23,7 +23,8 @@ pub(crate) fn store_line(
 ) -> Result<Line, Fault>
     requires { is_within (length lines.now.nodes) line.now ≡ true }
     ensures kept { Keeps proof.old proof.new }
-    ensures stores { StoresLine proof.old.signature proof.new.nodes (rule_of (trees lines.now.nodes) line.now) result }
+    ensures stores { StoresLine proof.old.signature proof.new.nodes
+        (rule_of (trees lines.now.nodes) line.now) result }
 {
     match line {
         Line::Assume(p) => Ok(Line::Assume(store_term(alloc, proof, lines, *p)?)),
@@ -71,7 +72,8 @@ fn store_term(
 ) -> Result<Id, Fault>
     requires { place < length lines.now.nodes }
     ensures kept { Keeps proof.old proof.new }
-    ensures stores { StoresTerm proof.old.signature proof.new.nodes (get_or (trees lines.now.nodes) place (bound_name [])) result }
+    ensures stores { StoresTerm proof.old.signature proof.new.nodes
+        (get_or (trees lines.now.nodes) place (bound_name [])) result }
 {
     let term = lines.term(alloc, place)?;
     check_term(alloc, proof.signature(), &term)?;

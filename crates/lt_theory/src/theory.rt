@@ -47,8 +47,10 @@ impl Theory {
     /// Adds an item where it is valid over those before it; else it is refused. After an error the theory stands for what it stood for.
     pub fn add_item(&mut self, alloc: Global, item: &Item) -> Result<(), Fault>
         requires { is_small (item_of item.now) ≡ true }
-        ensures adds { (ctx : Context) → StandsFor ctx self.old → Adds ctx (item_of item.now) self.new result }
-        ensures kept { OnErr result ((ctx : Context) → StandsFor ctx self.old → StandsFor ctx self.new) }
+        ensures adds { (ctx : Context) → StandsFor ctx self.old → Adds ctx
+            (item_of item.now) self.new result }
+        ensures kept { OnErr result
+            ((ctx : Context) → StandsFor ctx self.old → StandsFor ctx self.new) }
     {
         match item {
             Item::TypeDecl(name, arity) => add_type(alloc, &mut self.proof, name, *arity),
