@@ -2,7 +2,6 @@
 -- Source: this project's own.
 use Rattle.std.specs.Prelude.{ℕ, ◌+◌, ◌-◌, List, [], ◌∷◌, ◌++◌, Bool, ◌||◌, not, if◌then◌else◌, map, Option, Some, None, codes, length, nat_eq, nat_lt, nat_le, take, reverse, count_by, take_while}
 use Rattle.std.specs.Fmt.{decimal}
-use Rattle.lt_definitions.specs.Samples.{p}
 use Rattle.lt_texts.specs.Walks.{joined}
 
 -- A file's name and its bytes.

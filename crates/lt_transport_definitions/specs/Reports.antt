@@ -1,7 +1,6 @@
 -- What is written of a walk: a report of its items, or their summary, and the line on the first thing that is refused.
 -- Source: this project's own.
 use Rattle.std.specs.Prelude.{ℕ, List, [], ◌++◌, Bool, true, false, filter, Option, Some, None, codes, encode_utf8_all}
-use Rattle.lt_definitions.specs.Samples.{p}
 use Rattle.lt_texts.specs.Walks.{plain_limit}
 use Rattle.lt_definitions.specs.Types.{Chars}
 use Rattle.lt_definitions.specs.Items.{Item}

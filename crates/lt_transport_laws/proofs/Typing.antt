@@ -5,7 +5,7 @@ use Rattle.lt_transport_definitions.specs.Relations.{Relation, relation_variable
 use Rattle.lt_transport_definitions.specs.Expressions.{abstract_type, variables_of, right_of, right, rights, MayHave, IsExpression, AreExpressions}
 use Rattle.lt_transport_definitions.specs.RuleForm.{TransferRule}
 use Rattle.lt_transport_definitions.specs.Candidates.{type_at, match_of, Fits, IsCandidate}
-use Rattle.lt_transport_definitions.specs.Correspondence.{instance, instances, AreValues}
+use Rattle.lt_transport_definitions.specs.Correspondence.{relation_instance, relation_instances, AreValues}
 use Rattle.std.proofs.Common.{◌≡◌, ℕ, zero, suc, List, [], ◌∷◌, length, map, Option, slice_get, refl, subst, sym, ap, ◌∙◌, inl, inr}
 use Rattle.std.specs.Option.{unwrap_or}
 use Rattle.std.proofs.lemmas.List.{length-map}
@@ -38,35 +38,35 @@ right_of-put G m c ts rs R S h (a_form d) e f y = ap (type_constructor d.con) h
 
 mutual
   pub right-instance : (G : Registry) → IsRegistry G → (m : TypeMap) (xs : List RelationVariable) (vs : List Relation) → AreValues G m xs vs → (r : Relation) → IsOver G xs r
-      → right G (instance G m vs r) ≡ type_instance m (right G r)
-  right-instance G ok m xs vs h (relation_variable i t) k = (got-typed G m xs vs h i (relation_variable i t) t k).1
-  right-instance G ok m xs vs h (equality t) k = right-equality G ok (type_instance m t)
-  right-instance G ok m xs vs h (constructed c ts rs) k =
-      right_of-put G m c ts rs (rights G (instances G m vs rs)) (rights G rs) (rights-instances G ok m xs vs h rs k.1) (kind_of G c) refl (form_for G c) k.0
+      → right G (relation_instance G m vs r) ≡ type_instance m (right G r)
+  right-relation_instance G ok m xs vs h (relation_variable i t) k = (got-typed G m xs vs h i (relation_variable i t) t k).1
+  right-relation_instance G ok m xs vs h (equality t) k = right-equality G ok (type_instance m t)
+  right-relation_instance G ok m xs vs h (constructed c ts rs) k =
+      right_of-put G m c ts rs (rights G (relation_instances G m vs rs)) (rights G rs) (rights-relation_instances G ok m xs vs h rs k.1) (kind_of G c) refl (form_for G c) k.0
 
   pub rights-instances : (G : Registry) → IsRegistry G → (m : TypeMap) (xs : List RelationVariable) (vs : List Relation) → AreValues G m xs vs → (rs : Relations) → AreOver G xs rs
-      → rights G (instances G m vs rs) ≡ types_instance m (rights G rs)
-  rights-instances G ok m xs vs h no_relations k = refl
-  rights-instances G ok m xs vs h (relation_and r rs) k =
-      let p = right-instance G ok m xs vs h r k.0 in let q = rights-instances G ok m xs vs h rs k.1 in (λ i. type_and (p i) (q i))
+      → rights G (relation_instances G m vs rs) ≡ types_instance m (rights G rs)
+  rights-relation_instances G ok m xs vs h no_relations k = refl
+  rights-relation_instances G ok m xs vs h (relation_and r rs) k =
+      let p = right-relation_instance G ok m xs vs h r k.0 in let q = rights-relation_instances G ok m xs vs h rs k.1 in (λ i. type_and (p i) (q i))
 
-none-instances : (G : Registry) (m : TypeMap) (vs : List Relation) (rs : Relations) → rs ≡ no_relations → instances G m vs rs ≡ no_relations
-none-instances G m vs no_relations e = refl
-none-instances G m vs (relation_and r rs) e = absurd (cc)
+none-instances : (G : Registry) (m : TypeMap) (vs : List Relation) (rs : Relations) → rs ≡ no_relations → relation_instances G m vs rs ≡ no_relations
+none-relation_instances G m vs no_relations e = refl
+none-relation_instances G m vs (relation_and r rs) e = absurd (cc)
 
-may_have-put : (G : Registry) (m : TypeMap) (vs : List Relation) (k : Kind) (f : Option Parametrised) (ts : List TypeTree) (rs : Relations) → MayHave k f ts rs → MayHave k f (map (type_instance m) ts) (instances G m vs rs)
+may_have-put : (G : Registry) (m : TypeMap) (vs : List Relation) (k : Kind) (f : Option Parametrised) (ts : List TypeTree) (rs : Relations) → MayHave k f ts rs → MayHave k f (map (type_instance m) ts) (relation_instances G m vs rs)
 may_have-put G m vs no_constructor f ts rs h = h
 may_have-put G m vs (a_relator K) f ts rs h = ap (map (type_instance m)) h
-may_have-put G m vs (a_correspondence d) f ts rs h = (length-map ts (type_instance m) ∙ h.0, none-instances G m vs rs h.1, h.2)
+may_have-put G m vs (a_correspondence d) f ts rs h = (length-map ts (type_instance m) ∙ h.0, none-relation_instances G m vs rs h.1, h.2)
 may_have-put G m vs (a_form d) f ts rs h = ap (map (type_instance m)) h
 
 mutual
-  pub instance-expression : (G : Registry) → IsRegistry G → (m : TypeMap) (xs : List RelationVariable) (vs : List Relation) → AreValues G m xs vs → (r : Relation) → IsOver G xs r → IsExpression G (instance G m vs r)
+  pub instance-expression : (G : Registry) → IsRegistry G → (m : TypeMap) (xs : List RelationVariable) (vs : List Relation) → AreValues G m xs vs → (r : Relation) → IsOver G xs r → IsExpression G (relation_instance G m vs r)
   instance-expression G ok m xs vs h (relation_variable i t) k = (got-typed G m xs vs h i (relation_variable i t) t k).0
   instance-expression G ok m xs vs h (equality t) k = expression-equality G ok (type_instance m t)
   instance-expression G ok m xs vs h (constructed c ts rs) k = (may_have-put G m vs (kind_of G c) (form_for G c) ts rs k.0, instances-expressions G ok m xs vs h rs k.1)
 
-  pub instances-expressions : (G : Registry) → IsRegistry G → (m : TypeMap) (xs : List RelationVariable) (vs : List Relation) → AreValues G m xs vs → (rs : Relations) → AreOver G xs rs → AreExpressions G (instances G m vs rs)
+  pub instances-expressions : (G : Registry) → IsRegistry G → (m : TypeMap) (xs : List RelationVariable) (vs : List Relation) → AreValues G m xs vs → (rs : Relations) → AreOver G xs rs → AreExpressions G (relation_instances G m vs rs)
   instances-expressions G ok m xs vs h no_relations k = tt
   instances-expressions G ok m xs vs h (relation_and r rs) k = (instance-expression G ok m xs vs h r k.0, instances-expressions G ok m xs vs h rs k.1)
 
@@ -86,11 +86,11 @@ candidate-typed G S (r ∷ rules) c ts (suc i) rule t h = elim h [
 -- the expression of a chosen rule is one, and has the right type of its occurrence
 pub chosen-typed : (G : Registry) → IsRegistry G → (signature : Signature) (rules : List TransferRule) (c : Chars) (ts : List TypeTree) (i : ℕ) (rule : TransferRule) (vs : List Relation)
     → AreTyped G signature rules → IsCandidate rules c ts i rule → AreValues G (match_of rule ts) rule.variables vs
-    → IsExpression G (instance G (match_of rule ts) vs rule.relation) × (right G (instance G (match_of rule ts) vs rule.relation) ≡ type_at signature c ts)
+    → IsExpression G (relation_instance G (match_of rule ts) vs rule.relation) × (right G (relation_instance G (match_of rule ts) vs rule.relation) ≡ type_at signature c ts)
 chosen-typed G ok S rules c ts i rule vs t h v =
     let m = match_of rule ts in
     let k = candidate-typed G S rules c ts i rule t h in (
       instance-expression G ok m rule.variables vs v rule.relation k.1.formed,
-      right-instance G ok m rule.variables vs v rule.relation k.1.formed ∙ ap (type_instance m) k.1.typed
+      right-relation_instance G ok m rule.variables vs v rule.relation k.1.formed ∙ ap (type_instance m) k.1.typed
           ∙ sym (type_at-instance S rule.constant m rule.pattern k.1.counted) ∙ (λ j. type_at S (k.0.0 j) (k.0.1 j)),
     )
