@@ -13,7 +13,7 @@ pub data Item : Type 0 where
   axiom_item : (label : Chars) (statement : TermTree) → Item
   def_item : (name : Chars) (ty : TypeTree) (body : TermTree) → Item
   typedef_item : (name : Chars) (params : List Chars) (predicate : TermTree) (by_label abs rep : Chars) → Item
-  lemma_item : (label : Chars) (statement : TermTree) (lines : List Rule) → Item
+  lemma_item : (label : Chars) (statement : TermTree) (lines : List (Rule TermTree)) → Item
 
 -- What the items so far declare and state.
 pub record Context : Type 0 where

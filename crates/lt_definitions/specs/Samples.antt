@@ -85,7 +85,7 @@ fault_of_lines (Ok ss) = None
 fault_of_lines (Err e) = Some e
 
 -- the number and the fault of the first of the lines that has no sequent
-abbrev pub refused_line : List Rule → Option (ℕ × LineFault)
+abbrev pub refused_line : List (Rule TermTree) → Option (ℕ × LineFault)
 refused_line lines = fault_of_lines (derived samples facts [] lines)
 
 -- whether the last sequent has these hypotheses in this order and this conclusion, up to alpha equality
@@ -100,7 +100,7 @@ ends (Ok ss) hs c = is_last ss hs c
 ends (Err e) hs c = false
 
 -- whether the lines derive, the last one this sequent
-abbrev pub derive : List Rule → List TermTree → TermTree → Bool
+abbrev pub derive : List (Rule TermTree) → List TermTree → TermTree → Bool
 derive lines hs c = ends (derived samples facts [] lines) hs c
 
 -- a type nat with an element z, two predicates P and Q, and the axiom Pz : P z

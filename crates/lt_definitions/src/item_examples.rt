@@ -4,7 +4,8 @@ ghost use Rattle.std.specs.Prelude.{◌≡◌, [], ◌∷◌, ◌++◌, Some, No
 ghost use Rattle.lt_definitions.specs.Types.{bool, fun, found};
 ghost use Rattle.lt_definitions.specs.Terms.{equation, implies, for_all};
 ghost use Rattle.lt_definitions.specs.Typing.{unknown_type, arity, unknown_const, unbound, mismatch};
-ghost use Rattle.lt_definitions.specs.Rules.{Sequent, variable_in_hypothesis, unknown_label, by_assume, by_refl, by_mp, by_impI, by_allI, by_thm, by_tinst};
+ghost use Rattle.lt_definitions.specs.Rules.{Sequent, by_assume, by_refl, by_mp, by_impI, by_allI, by_thm, by_tinst};
+ghost use Rattle.lt_definitions.specs.declared.reason.Reason.TheVariants.{VariableInHypothesis, UnknownLabel};
 ghost use Rattle.lt_definitions.specs.Items.{type_item, const_item, axiom_item, def_item, typedef_item, lemma_item, empty, with_item};
 ghost use Rattle.lt_definitions.specs.Theory.{refusal, checked, at_fault, not_boolean, unknown_statement, duplicate, open_term, loose_type_var, typedef_shape, in_line, bad_line, not_proved};
 ghost use Rattle.lt_definitions.specs.Samples.{tyvar, type_of_args, nat, free, bound, con, con_at, app, lambda, all_equal, p, q, numbers, over_numbers, typedef_t, implication, over_implication};
@@ -139,7 +140,7 @@ pub fn lemmas_that_are_not_proved()
 /// A hypothesis bars a quantifier over its free variable.
 pub fn hypothesis_that_bars_a_quantifier()
     ensures barred { refusal empty (lemma_item (codes "l") (for_all bool (lambda "x" bool (bound "x"))) (by_assume (free "x" bool) ∷ by_allI (codes "x") bool 1 ∷ []))
-        ≡ Some (bad_line 2 variable_in_hypothesis) }
+        ≡ Some (bad_line 2 VariableInHypothesis) }
     ensures discharged_first { refusal empty (lemma_item (codes "l") (for_all bool (lambda "x" bool (implies (bound "x") (bound "x"))))
         (by_assume (free "x" bool) ∷ by_impI (free "x" bool) 1 ∷ by_allI (codes "x") bool 2 ∷ [])) ≡ None }
 {}
@@ -153,6 +154,6 @@ pub fn lemma_without_capture()
 
 /// A lemma may cite what stands before it alone.
 pub fn statements_before()
-    ensures unknown { refusal empty (lemma_item (codes "l") (all_equal bool) (by_thm (codes "l") ∷ [])) ≡ Some (bad_line 1 unknown_label) }
+    ensures unknown { refusal empty (lemma_item (codes "l") (all_equal bool) (by_thm (codes "l") ∷ [])) ≡ Some (bad_line 1 UnknownLabel) }
     ensures known { refusal over_numbers (lemma_item (codes "l") (app (con "P") (con "z")) (by_thm (codes "Pz") ∷ [])) ≡ None }
 {}

@@ -7,7 +7,9 @@ use Rattle.lt_definitions.specs.Terms.{TermTree, bound_name, constant, applicati
 use Rattle.lt_definitions.specs.Typing.{Signature, built_in, Fault, earlier, type_fault, types_fault, at_types, applied_type, typed, HasType, is_of_type, has_type}
 use Rattle.lt_definitions.specs.Alpha.{AreAlpha, is_alpha}
 use Rattle.lt_definitions.specs.Binding.{opened, replaced, new_binder, closed_over}
-use Rattle.lt_definitions.specs.Rules.{Sequent, Reason, missing_line, not_bool, not_equation, middle_differs, type_differs, variable_in_hypothesis, not_redex, not_implication, not_forall, unknown_label, Rule, by_assume, by_weaken, by_refl, by_sym, by_trans, by_cong, by_abs, by_beta, by_eta, by_eqmp, by_impI, by_mp, by_allI, by_allE, by_iff, by_inst, by_tinst, by_select, by_ccontr, by_thm, has_term, union, without, distinct, Outcome, gives, where_holds, with_found, line_at, as_equation, as_implication, as_forall, at_argument, beta_of, eta_of, type_of, predicate_over, joined_type, ok_of, selection, step}
+use Rattle.lt_definitions.specs.Rules.{Sequent, Rule, by_assume, by_weaken, by_refl, by_sym, by_trans, by_cong, by_abs, by_beta, by_eta, by_eqmp, by_impI, by_mp, by_allI, by_allE, by_iff, by_inst, by_tinst, by_select, by_ccontr, by_thm, has_term, union, without, distinct, Outcome, gives, where_holds, with_found, line_at, as_equation, as_implication, as_forall, at_argument, beta_of, eta_of, type_of, predicate_over, joined_type, ok_of, selection, step}
+use Rattle.lt_definitions.specs.declared.reason.Reason.{Reason}
+use Rattle.lt_definitions.specs.declared.reason.Reason.TheVariants.{MissingLine, NotBool, NotEquation, MiddleDiffers, TypeDiffers, VariableInHypothesis, NotRedex, NotImplication, NotForall, UnknownLabel}
 use Rattle.lt_definitions.specs.Derivations.{Derives, rule_fault, term_fault, IsPartOf}
 use Rattle.lt_nameless.specs.Booleans.{IsSoundSignature, IsBoolean, IsBooleanSequent, AreBooleanStatements}
 use Rattle.lt_nameless.specs.NamelessRules.{nameless_typed}
@@ -301,99 +303,99 @@ selection-typed sig b ty p e h =
     for_all-typed sig b [] (codes "x") ty (implies (application p (bound_name (codes "x"))) (application p (some_of ty p))) e
     (implies-typed sig b env (application p (bound_name (codes "x"))) (application p (some_of ty p)) (ty, inner, refl) (ty, inner, some))
 
-good-step : (sig : Signature) (named : List (Chars × TermTree)) (done : List Sequent) (line : Rule) → IsSoundSignature sig
-    → AreBooleanStatements sig named → AreGood sig done → rule_fault sig line ≡ None → Good sig (step sig named done line)
-good-step sig named done (by_assume p) s n d t = good-holds sig (has_type sig p bool) not_bool (gives (p ∷ []) p)
+good-step : (sig : Signature) (named : List (Chars × TermTree)) (done : List Sequent) (line : Rule TermTree) → IsSoundSignature sig
+    → AreBooleanStatements sig named → AreGood sig done → rule_fault sig (term_fault sig) line ≡ None → Good sig (step sig named done line)
+good-step sig named done (by_assume p) s n d t = good-holds sig (has_type sig p bool) NotBool (gives (p ∷ []) p)
     (λ e. let h = has-of sig p bool e in ((h, tt), h))
-good-step sig named done (by_weaken p i) s n d t = good-found sig missing_line (line_at done i) _ (λ u e. let h = line-good sig done i u d e in
-    good-holds sig (has_type sig p bool) not_bool (gives (union u.hyps (p ∷ [])) u.concl)
+good-step sig named done (by_weaken p i) s n d t = good-found sig MissingLine (line_at done i) _ (λ u e. let h = line-good sig done i u d e in
+    good-holds sig (has_type sig p bool) NotBool (gives (union u.hyps (p ∷ [])) u.concl)
     (λ f. (union-boolean sig u.hyps (p ∷ []) h.0 (has-of sig p bool f, tt), h.1)))
 good-step sig named done (by_refl p) s n d t = let h = typed-as sig p t in
     (tt, equal sig s (type_of sig p) p p h h)
-good-step sig named done (by_sym i) s n d t = good-found sig missing_line (line_at done i) _ (λ u e. let h = line-good sig done i u d e in
-    good-found sig not_equation (as_equation u.concl) _ (λ q f. let k = equation-sides sig s.built u.concl q h.1 f in
+good-step sig named done (by_sym i) s n d t = good-found sig MissingLine (line_at done i) _ (λ u e. let h = line-good sig done i u d e in
+    good-found sig NotEquation (as_equation u.concl) _ (λ q f. let k = equation-sides sig s.built u.concl q h.1 f in
     (h.0, equal sig s q.0 q.2 q.1 k.1 k.0)))
-good-step sig named done (by_trans i j) s n d t = good-found sig missing_line (line_at done i) _ (λ u e. good-found sig missing_line (line_at done j) _ (λ v f.
+good-step sig named done (by_trans i j) s n d t = good-found sig MissingLine (line_at done i) _ (λ u e. good-found sig MissingLine (line_at done j) _ (λ v f.
     let h = line-good sig done i u d e in let g = line-good sig done j v d f in
-    good-found sig not_equation (as_equation u.concl) _ (λ q a. good-found sig not_equation (as_equation v.concl) _ (λ r b.
+    good-found sig NotEquation (as_equation u.concl) _ (λ q a. good-found sig NotEquation (as_equation v.concl) _ (λ r b.
     let k = equation-sides sig s.built u.concl q h.1 a in let l = equation-sides sig s.built v.concl r g.1 b in
-    good-holds sig (is_alpha q.2 r.1) middle_differs (gives (union u.hyps v.hyps) (equation q.0 q.1 r.2)) (λ c.
+    good-holds sig (is_alpha q.2 r.1) MiddleDiffers (gives (union u.hyps v.hyps) (equation q.0 q.1 r.2)) (λ c.
     let same : r.0 ≡ q.0 = sym (one-type sig q.2 r.1 q.0 r.0 c k.1 l.0) in
     (union-boolean sig u.hyps v.hyps h.0 g.0, equal sig s q.0 q.1 r.2 k.0 (subst (λ (ty : TypeTree). HasType sig [] r.2 ty) same l.1)))))))
-good-step sig named done (by_cong i j) s n d t = good-found sig missing_line (line_at done i) _ (λ u e. good-found sig missing_line (line_at done j) _ (λ v f.
+good-step sig named done (by_cong i j) s n d t = good-found sig MissingLine (line_at done i) _ (λ u e. good-found sig MissingLine (line_at done j) _ (λ v f.
     let h = line-good sig done i u d e in let g = line-good sig done j v d f in
-    good-found sig not_equation (as_equation u.concl) _ (λ q a. good-found sig not_equation (as_equation v.concl) _ (λ r b.
+    good-found sig NotEquation (as_equation u.concl) _ (λ q a. good-found sig NotEquation (as_equation v.concl) _ (λ r b.
     let k = equation-sides sig s.built u.concl q h.1 a in let l = equation-sides sig s.built v.concl r g.1 b in
-    good-found sig type_differs (joined_type q.0 r.0) _ (λ ty c.
+    good-found sig TypeDiffers (joined_type q.0 r.0) _ (λ ty c.
     let is : q.0 ≡ fun r.0 ty = applied-ok q.0 r.0 ty (joined-ok (applied_type q.0 r.0) ty c) in (
       union-boolean sig u.hyps v.hyps h.0 g.0,
       equal sig s ty (application q.1 r.1) (application q.2 r.2)
           (r.0, subst (λ (w : TypeTree). HasType sig [] q.1 w) is k.0, l.0) (r.0, subst (λ (w : TypeTree). HasType sig [] q.2 w) is k.1, l.1),
     ))))))
-good-step sig named done (by_abs x ty i) s n d t = good-found sig missing_line (line_at done i) _ (λ u e. let h = line-good sig done i u d e in
-    good-found sig not_equation (as_equation u.concl) _ (λ q f. let k = equation-sides sig s.built u.concl q h.1 f in
-    good-holds sig (not (list_any (has_free x ty) u.hyps)) variable_in_hypothesis (gives u.hyps (equation (fun ty q.0) (closed_over x ty q.1) (closed_over x ty q.2)))
+good-step sig named done (by_abs x ty i) s n d t = good-found sig MissingLine (line_at done i) _ (λ u e. let h = line-good sig done i u d e in
+    good-found sig NotEquation (as_equation u.concl) _ (λ q f. let k = equation-sides sig s.built u.concl q h.1 f in
+    good-holds sig (not (list_any (has_free x ty) u.hyps)) VariableInHypothesis (gives u.hyps (equation (fun ty q.0) (closed_over x ty q.1) (closed_over x ty q.2)))
     (λ c. (h.0, equal sig s (fun ty q.0) (closed_over x ty q.1) (closed_over x ty q.2) (closed-has sig x ty q.1 q.0 t k.0) (closed-has sig x ty q.2 q.0 t k.1)))))
 good-step sig named done (by_beta p) s n d t = let h = typed-as sig p t in
-    good-found sig not_redex (beta_of p) _ (λ b e. (tt, equal sig s (type_of sig p) p b h (beta-typed sig p b (type_of sig p) h e)))
+    good-found sig NotRedex (beta_of p) _ (λ b e. (tt, equal sig s (type_of sig p) p b h (beta-typed sig p b (type_of sig p) h e)))
 good-step sig named done (by_eta p) s n d t = let h = typed-as sig p t in
-    good-found sig not_redex (eta_of p) _ (λ f e. (tt, equal sig s (type_of sig p) p f h (eta-typed sig p f (type_of sig p) h e)))
-good-step sig named done (by_eqmp i j) s n d t = good-found sig missing_line (line_at done i) _ (λ u e. good-found sig missing_line (line_at done j) _ (λ v f.
+    good-found sig NotRedex (eta_of p) _ (λ f e. (tt, equal sig s (type_of sig p) p f h (eta-typed sig p f (type_of sig p) h e)))
+good-step sig named done (by_eqmp i j) s n d t = good-found sig MissingLine (line_at done i) _ (λ u e. good-found sig MissingLine (line_at done j) _ (λ v f.
     let h = line-good sig done i u d e in let g = line-good sig done j v d f in
-    good-found sig not_equation (as_equation u.concl) _ (λ q a. let k = equation-sides sig s.built u.concl q h.1 a in
-    good-holds sig (is_alpha q.1 v.concl) middle_differs (gives (union u.hyps v.hyps) q.2) (λ c.
+    good-found sig NotEquation (as_equation u.concl) _ (λ q a. let k = equation-sides sig s.built u.concl q h.1 a in
+    good-holds sig (is_alpha q.1 v.concl) MiddleDiffers (gives (union u.hyps v.hyps) q.2) (λ c.
     (union-boolean sig u.hyps v.hyps h.0 g.0, subst (λ (ty : TypeTree). HasType sig [] q.2 ty) (one-type sig q.1 v.concl q.0 bool c k.0 g.1) k.1)))))
-good-step sig named done (by_impI p i) s n d t = good-found sig missing_line (line_at done i) _ (λ u e. let h = line-good sig done i u d e in
-    good-holds sig (has_type sig p bool) not_bool (gives (without p u.hyps) (implies p u.concl))
+good-step sig named done (by_impI p i) s n d t = good-found sig MissingLine (line_at done i) _ (λ u e. let h = line-good sig done i u d e in
+    good-holds sig (has_type sig p bool) NotBool (gives (without p u.hyps) (implies p u.concl))
     (λ c. (without-boolean sig p u.hyps h.0, implies-typed sig s.built [] p u.concl (has-of sig p bool c) h.1)))
-good-step sig named done (by_mp i j) s n d t = good-found sig missing_line (line_at done i) _ (λ u e. good-found sig missing_line (line_at done j) _ (λ v f.
+good-step sig named done (by_mp i j) s n d t = good-found sig MissingLine (line_at done i) _ (λ u e. good-found sig MissingLine (line_at done j) _ (λ v f.
     let h = line-good sig done i u d e in let g = line-good sig done j v d f in
-    good-found sig not_implication (as_implication u.concl) _ (λ q a.
-    good-holds sig (is_alpha q.0 v.concl) middle_differs (gives (union u.hyps v.hyps) q.1) (λ c.
+    good-found sig NotImplication (as_implication u.concl) _ (λ q a.
+    good-holds sig (is_alpha q.0 v.concl) MiddleDiffers (gives (union u.hyps v.hyps) q.1) (λ c.
     (union-boolean sig u.hyps v.hyps h.0 g.0, (implication-sides sig s.built u.concl q h.1 a).1)))))
-good-step sig named done (by_allI x ty i) s n d t = good-found sig missing_line (line_at done i) _ (λ u e. let h = line-good sig done i u d e in
-    good-holds sig (not (list_any (has_free x ty) u.hyps)) variable_in_hypothesis (gives u.hyps (for_all ty (closed_over x ty u.concl)))
+good-step sig named done (by_allI x ty i) s n d t = good-found sig MissingLine (line_at done i) _ (λ u e. let h = line-good sig done i u d e in
+    good-holds sig (not (list_any (has_free x ty) u.hyps)) VariableInHypothesis (gives u.hyps (for_all ty (closed_over x ty u.concl)))
     (λ c. (h.0, all-closed sig s x ty u.concl t h.1)))
-good-step sig named done (by_allE p i) s n d t = good-found sig missing_line (line_at done i) _ (λ u e. let h = line-good sig done i u d e in
-    good-found sig not_forall (as_forall u.concl) _ (λ a f.
-    good-holds sig (has_type sig p a.0) type_differs (gives u.hyps (at_argument a.1 p))
+good-step sig named done (by_allE p i) s n d t = good-found sig MissingLine (line_at done i) _ (λ u e. let h = line-good sig done i u d e in
+    good-found sig NotForall (as_forall u.concl) _ (λ a f.
+    good-holds sig (has_type sig p a.0) TypeDiffers (gives u.hyps (at_argument a.1 p))
     (λ c. (h.0, at-typed sig a.1 p a.0 (forall-side sig s.built u.concl a h.1 f) (has-of sig p a.0 c)))))
-good-step sig named done (by_iff i j) s n d t = good-found sig missing_line (line_at done i) _ (λ u e. good-found sig missing_line (line_at done j) _ (λ v f.
+good-step sig named done (by_iff i j) s n d t = good-found sig MissingLine (line_at done i) _ (λ u e. good-found sig MissingLine (line_at done j) _ (λ v f.
     let h = line-good sig done i u d e in let g = line-good sig done j v d f in
-    good-found sig not_implication (as_implication u.concl) _ (λ q a. good-found sig not_implication (as_implication v.concl) _ (λ r b.
+    good-found sig NotImplication (as_implication u.concl) _ (λ q a. good-found sig NotImplication (as_implication v.concl) _ (λ r b.
     let k = implication-sides sig s.built u.concl q h.1 a in
-    good-holds sig (is_alpha q.0 r.1 && is_alpha q.1 r.0) middle_differs (gives (union u.hyps v.hyps) (equation bool q.0 q.1)) (λ c.
+    good-holds sig (is_alpha q.0 r.1 && is_alpha q.1 r.0) MiddleDiffers (gives (union u.hyps v.hyps) (equation bool q.0 q.1)) (λ c.
     (union-boolean sig u.hyps v.hyps h.0 g.0, equal sig s bool q.0 q.1 k.0 k.1))))))
-good-step sig named done (by_inst x ty p i) s n d t = good-found sig missing_line (line_at done i) _ (λ u e. let h = line-good sig done i u d e in
-    good-holds sig (has_type sig p ty) type_differs (gives (distinct (map (replaced x ty p) u.hyps)) (replaced x ty p u.concl)) (λ c.
+good-step sig named done (by_inst x ty p i) s n d t = good-found sig MissingLine (line_at done i) _ (λ u e. let h = line-good sig done i u d e in
+    good-holds sig (has_type sig p ty) TypeDiffers (gives (distinct (map (replaced x ty p) u.hyps)) (replaced x ty p u.concl)) (λ c.
     let k = has-of sig p ty c in (
       union-boolean sig [] (map (replaced x ty p) u.hyps) tt (map-boolean sig (replaced x ty p) (λ w l. replaced-has sig [] x ty p w bool k l) u.hyps h.0),
       replaced-has sig [] x ty p u.concl bool k h.1,
     )))
 good-step sig named done (by_tinst a ty i) s n d t = let m : TypeMap = (a, ty) ∷ [] in
     let sound : types_fault sig (row (ty ∷ [])) ≡ None = none-both (type_fault sig ty) None t refl in
-    good-found sig missing_line (line_at done i) _ (λ u e. let h = line-good sig done i u d e in (
+    good-found sig MissingLine (line_at done i) _ (λ u e. let h = line-good sig done i u d e in (
       union-boolean sig [] (map (term_instance m) u.hyps) tt (map-boolean sig (term_instance m) (λ w l. instance-has sig (a ∷ []) (ty ∷ []) [] w bool sound l) u.hyps h.0),
       instance-has sig (a ∷ []) (ty ∷ []) [] u.concl bool sound h.1,
     ))
 good-step sig named done (by_select p) s n d t = let h = typed-as sig p t in
-    good-found sig type_differs (predicate_over (type_of sig p)) _ (λ ty e.
+    good-found sig TypeDiffers (predicate_over (type_of sig p)) _ (λ ty e.
     let k = subst (λ (w : TypeTree). HasType sig [] p w) (predicate-is (type_of sig p) ty e) h in
     (tt, selection-typed sig s.built ty p (sound-fun sig ty bool (sound-of sig s p (fun ty bool) k)).0 k))
-good-step sig named done (by_ccontr p) s n d t = good-holds sig (has_type sig p bool) not_bool (gives [] (implies (implies (implies p falsity) falsity) p)) (λ c.
+good-step sig named done (by_ccontr p) s n d t = good-holds sig (has_type sig p bool) NotBool (gives [] (implies (implies (implies p falsity) falsity) p)) (λ c.
     let h = has-of sig p bool c in let f = falsity-typed sig s.built in (
       tt,
       implies-typed sig s.built [] (implies (implies p falsity) falsity) p
           (implies-typed sig s.built [] (implies p falsity) falsity (implies-typed sig s.built [] p falsity h f) f) h,
     ))
-good-step sig named done (by_thm l) s n d t = good-found sig unknown_label (found l named) _ (λ p e. (tt, n l p e))
+good-step sig named done (by_thm l) s n d t = good-found sig UnknownLabel (found l named) _ (λ p e. (tt, n l p e))
 
-pub rules_keep_booleans : (sig : Signature) (named : List (Chars × TermTree)) (done : List Sequent) (line : Rule) (s : Sequent)
-    → IsSoundSignature sig → AreBooleanStatements sig named → All (IsBooleanSequent sig) done → rule_fault sig line ≡ None → step sig named done line ≡ Ok s
+pub rules_keep_booleans : (sig : Signature) (named : List (Chars × TermTree)) (done : List Sequent) (line : Rule TermTree) (s : Sequent)
+    → IsSoundSignature sig → AreBooleanStatements sig named → All (IsBooleanSequent sig) done → rule_fault sig (term_fault sig) line ≡ None → step sig named done line ≡ Ok s
     → IsBooleanSequent sig s
 rules_keep_booleans sig named done line s h n d t e = of-good sig s (subst (Good sig) e (good-step sig named done line h n (goods-of sig done d) t))
 
-derives-good : (sig : Signature) (named : List (Chars × TermTree)) (done : List Sequent) (lines : List Rule) (ss : List Sequent) → IsSoundSignature sig
+derives-good : (sig : Signature) (named : List (Chars × TermTree)) (done : List Sequent) (lines : List (Rule TermTree)) (ss : List Sequent) → IsSoundSignature sig
     → AreBooleanStatements sig named → AreGood sig done → Derives sig named done lines ss → AreGood sig ss
 derives-good sig named done [] [] h n g d = tt
 derives-good sig named done (line ∷ lines) (s ∷ ss) h n g d =
@@ -401,7 +403,7 @@ derives-good sig named done (line ∷ lines) (s ∷ ss) h n g d =
     (k, derives-good sig named (done ++ s ∷ []) lines ss h n (append-good sig done (s ∷ []) g (k, tt)) d.2)
 derives-good sig named done lines ss h n g d = absurd d
 
-pub derivations_keep_booleans : (sig : Signature) (named : List (Chars × TermTree)) (done : List Sequent) (lines : List Rule) (ss : List Sequent)
+pub derivations_keep_booleans : (sig : Signature) (named : List (Chars × TermTree)) (done : List Sequent) (lines : List (Rule TermTree)) (ss : List Sequent)
     → IsSoundSignature sig → AreBooleanStatements sig named → All (IsBooleanSequent sig) done → Derives sig named done lines ss → All (IsBooleanSequent sig) ss
 derivations_keep_booleans sig named done lines ss h n g d = of-goods sig ss (derives-good sig named done lines ss h n (goods-of sig done g) d)
 

@@ -4,10 +4,13 @@ use Rattle.std.specs.List.{list_any}
 use Rattle.std.proofs.lemmas.Bool.Decides.{nat_tests}
 use Rattle.lt_definitions.specs.Types.{Chars, same_name, found, TypeTree, TypeMap, bool, fun, same_type}
 use Rattle.lt_definitions.specs.Typing.{Signature, Fault, earlier, type_fault, with_ok, unless, bound_type, applied_type}
-use Rattle.lt_definitions.specs.Derivations.{fault_of}
-use Rattle.lt_definitions.specs.Rules.{Reason, missing_line, not_bool, not_equation, middle_differs, type_differs, variable_in_hypothesis, not_redex, not_implication, not_forall, unknown_label, where_holds, with_found, line_at, joined_type, predicate_over}
+use Rattle.lt_definitions.specs.Derivations.{fault_of, rule_fault}
+use Rattle.lt_definitions.specs.Rules.{where_holds, with_found, line_at, joined_type, predicate_over, Rule}
+use Rattle.lt_definitions.specs.declared.reason.Reason.{Reason}
+use Rattle.lt_definitions.specs.declared.reason.Reason.TheVariants.{MissingLine, NotBool, NotEquation, MiddleDiffers, TypeDiffers, VariableInHypothesis, NotRedex, NotImplication, NotForall, UnknownLabel}
 use Rattle.lt_nameless.specs.Nameless.{Nameless, nameless_free, nameless_bound, nameless_loose, nameless_constant, nameless_application, nameless_abstraction, NamelessSequent, IsWhole}
-use Rattle.lt_nameless.specs.NamelessRules.{nameless_has_type, nameless_has_free, nameless_implies, nameless_for_all, nameless_falsity, instance_at, abstracted, nameless_replaced, nameless_instance, has_index, same_nameless, nameless_typed, nameless_fault, nameless_rule_fault, nameless_equation, nameless_as_equation, nameless_as_implication, nameless_as_forall, nameless_at, nameless_beta, nameless_eta, nameless_union, nameless_without, nameless_type_of, NamelessOutcome, nameless_gives, NamelessRule, line_assume, line_weaken, line_refl, line_sym, line_trans, line_cong, line_abs, line_beta, line_eta, line_eqmp, line_impI, line_mp, line_allI, line_allE, line_iff, line_inst, line_tinst, line_select, line_ccontr, line_thm, nameless_step, AreWhole, IsWholeSequent, AreWholeSequents, AreWholeStatements}
+use Rattle.lt_nameless.specs.NamelessRules.{nameless_has_type, nameless_has_free, nameless_implies, nameless_for_all, nameless_falsity, instance_at, abstracted, nameless_replaced, nameless_instance, has_index, same_nameless, nameless_typed, nameless_fault, nameless_equation, nameless_as_equation, nameless_as_implication, nameless_as_forall, nameless_at, nameless_beta, nameless_eta, nameless_union, nameless_without, nameless_type_of, NamelessOutcome, nameless_gives, nameless_step, AreWhole, IsWholeSequent, AreWholeSequents, AreWholeStatements}
+use Rattle.lt_definitions.specs.Rules.{Rule, by_assume, by_weaken, by_refl, by_sym, by_trans, by_cong, by_abs, by_beta, by_eta, by_eqmp, by_impI, by_mp, by_allI, by_allE, by_iff, by_inst, by_tinst, by_select, by_ccontr, by_thm}
 use Rattle.lt_definitions.proofs.SameNames.{bool_cases, true-false}
 use Rattle.lt_nameless.proofs.BindingLemmas.{if-true, if-false}
 
@@ -213,68 +216,68 @@ pub both-none : (a b : Option Fault) → earlier a b ≡ None → (a ≡ None) �
 both-none None b e = (refl, e)
 both-none (Some f) b e = absurd (cc e)
 
-good-step : (sig : Signature) (named : List (Chars × Nameless)) (done : List NamelessSequent) (line : NamelessRule)
-    → AreWholeStatements named → AreWholeSequents done → nameless_rule_fault sig line ≡ None → Good (nameless_step sig named done line)
-good-step sig named done (line_assume p) n d t = let w = term-whole sig p t in good-holds (nameless_has_type sig p bool) not_bool (nameless_gives (p ∷ []) p) ((w, tt), w)
-good-step sig named done (line_weaken p i) n d t = good-found missing_line (line_at done i) _ (λ s e. let h = number-whole done i s d e in
-    good-holds (nameless_has_type sig p bool) not_bool (nameless_gives (nameless_union s.hyps (p ∷ [])) s.concl) (union-whole s.hyps (p ∷ []) h.0 (term-whole sig p t, tt), h.1))
-good-step sig named done (line_refl p) n d t = let w = term-whole sig p t in (tt, ((tt, w), w))
-good-step sig named done (line_sym i) n d t = good-found missing_line (line_at done i) _ (λ s e. let h = number-whole done i s d e in
-    good-found not_equation (nameless_as_equation s.concl) _ (λ q f. let k = equation-whole s.concl q h.1 f in (h.0, ((tt, k.1), k.0))))
-good-step sig named done (line_trans i j) n d t = good-found missing_line (line_at done i) _ (λ s e. good-found missing_line (line_at done j) _ (λ u f.
+good-step : (sig : Signature) (named : List (Chars × Nameless)) (done : List NamelessSequent) (line : Rule Nameless)
+    → AreWholeStatements named → AreWholeSequents done → rule_fault sig (nameless_fault sig) line ≡ None → Good (nameless_step sig named done line)
+good-step sig named done (by_assume p) n d t = let w = term-whole sig p t in good-holds (nameless_has_type sig p bool) NotBool (nameless_gives (p ∷ []) p) ((w, tt), w)
+good-step sig named done (by_weaken p i) n d t = good-found MissingLine (line_at done i) _ (λ s e. let h = number-whole done i s d e in
+    good-holds (nameless_has_type sig p bool) NotBool (nameless_gives (nameless_union s.hyps (p ∷ [])) s.concl) (union-whole s.hyps (p ∷ []) h.0 (term-whole sig p t, tt), h.1))
+good-step sig named done (by_refl p) n d t = let w = term-whole sig p t in (tt, ((tt, w), w))
+good-step sig named done (by_sym i) n d t = good-found MissingLine (line_at done i) _ (λ s e. let h = number-whole done i s d e in
+    good-found NotEquation (nameless_as_equation s.concl) _ (λ q f. let k = equation-whole s.concl q h.1 f in (h.0, ((tt, k.1), k.0))))
+good-step sig named done (by_trans i j) n d t = good-found MissingLine (line_at done i) _ (λ s e. good-found MissingLine (line_at done j) _ (λ u f.
     let h = number-whole done i s d e in let g = number-whole done j u d f in
-    good-found not_equation (nameless_as_equation s.concl) _ (λ q a. good-found not_equation (nameless_as_equation u.concl) _ (λ r b.
+    good-found NotEquation (nameless_as_equation s.concl) _ (λ q a. good-found NotEquation (nameless_as_equation u.concl) _ (λ r b.
     let k = equation-whole s.concl q h.1 a in let l = equation-whole u.concl r g.1 b in
-    good-holds (same_nameless q.2 r.1) middle_differs (nameless_gives (nameless_union s.hyps u.hyps) (nameless_equation q.0 q.1 r.2)) (union-whole s.hyps u.hyps h.0 g.0, ((tt, k.0), l.1))))))
-good-step sig named done (line_cong i j) n d t = good-found missing_line (line_at done i) _ (λ s e. good-found missing_line (line_at done j) _ (λ u f.
+    good-holds (same_nameless q.2 r.1) MiddleDiffers (nameless_gives (nameless_union s.hyps u.hyps) (nameless_equation q.0 q.1 r.2)) (union-whole s.hyps u.hyps h.0 g.0, ((tt, k.0), l.1))))))
+good-step sig named done (by_cong i j) n d t = good-found MissingLine (line_at done i) _ (λ s e. good-found MissingLine (line_at done j) _ (λ u f.
     let h = number-whole done i s d e in let g = number-whole done j u d f in
-    good-found not_equation (nameless_as_equation s.concl) _ (λ q a. good-found not_equation (nameless_as_equation u.concl) _ (λ r b.
+    good-found NotEquation (nameless_as_equation s.concl) _ (λ q a. good-found NotEquation (nameless_as_equation u.concl) _ (λ r b.
     let k = equation-whole s.concl q h.1 a in let l = equation-whole u.concl r g.1 b in
-    good-found type_differs (joined_type q.0 r.0) _ (λ ty c. (union-whole s.hyps u.hyps h.0 g.0, ((tt, (k.0, l.0)), (k.1, l.1))))))))
-good-step sig named done (line_abs x ty i) n d t = good-found missing_line (line_at done i) _ (λ s e. let h = number-whole done i s d e in
-    good-found not_equation (nameless_as_equation s.concl) _ (λ q f. let k = equation-whole s.concl q h.1 f in
-    good-holds (not (list_any (nameless_has_free x ty) s.hyps)) variable_in_hypothesis (nameless_gives s.hyps (nameless_equation (fun ty q.0) (nameless_abstraction ty (abstracted 0 x ty q.1)) (nameless_abstraction ty (abstracted 0 x ty q.2)))) (h.0, ((tt, abstracted-whole 0 x ty q.1 k.0), abstracted-whole 0 x ty q.2 k.1))))
-good-step sig named done (line_beta p) n d t = let w = term-whole sig p t in
-    good-found not_redex (nameless_beta p) _ (λ b e. (tt, ((tt, w), beta-whole p b w e)))
-good-step sig named done (line_eta p) n d t = let w = term-whole sig p t in
-    good-found not_redex (nameless_eta p) _ (λ f e. (tt, ((tt, w), eta-whole p f w e)))
-good-step sig named done (line_eqmp i j) n d t = good-found missing_line (line_at done i) _ (λ s e. good-found missing_line (line_at done j) _ (λ u f.
+    good-found TypeDiffers (joined_type q.0 r.0) _ (λ ty c. (union-whole s.hyps u.hyps h.0 g.0, ((tt, (k.0, l.0)), (k.1, l.1))))))))
+good-step sig named done (by_abs x ty i) n d t = good-found MissingLine (line_at done i) _ (λ s e. let h = number-whole done i s d e in
+    good-found NotEquation (nameless_as_equation s.concl) _ (λ q f. let k = equation-whole s.concl q h.1 f in
+    good-holds (not (list_any (nameless_has_free x ty) s.hyps)) VariableInHypothesis (nameless_gives s.hyps (nameless_equation (fun ty q.0) (nameless_abstraction ty (abstracted 0 x ty q.1)) (nameless_abstraction ty (abstracted 0 x ty q.2)))) (h.0, ((tt, abstracted-whole 0 x ty q.1 k.0), abstracted-whole 0 x ty q.2 k.1))))
+good-step sig named done (by_beta p) n d t = let w = term-whole sig p t in
+    good-found NotRedex (nameless_beta p) _ (λ b e. (tt, ((tt, w), beta-whole p b w e)))
+good-step sig named done (by_eta p) n d t = let w = term-whole sig p t in
+    good-found NotRedex (nameless_eta p) _ (λ f e. (tt, ((tt, w), eta-whole p f w e)))
+good-step sig named done (by_eqmp i j) n d t = good-found MissingLine (line_at done i) _ (λ s e. good-found MissingLine (line_at done j) _ (λ u f.
     let h = number-whole done i s d e in let g = number-whole done j u d f in
-    good-found not_equation (nameless_as_equation s.concl) _ (λ q a.
-    good-holds (same_nameless q.1 u.concl) middle_differs (nameless_gives (nameless_union s.hyps u.hyps) q.2) (union-whole s.hyps u.hyps h.0 g.0, (equation-whole s.concl q h.1 a).1))))
-good-step sig named done (line_impI p i) n d t = good-found missing_line (line_at done i) _ (λ s e. let h = number-whole done i s d e in
-    good-holds (nameless_has_type sig p bool) not_bool (nameless_gives (nameless_without p s.hyps) (nameless_implies p s.concl)) (without-whole p s.hyps h.0, ((tt, term-whole sig p t), h.1)))
-good-step sig named done (line_mp i j) n d t = good-found missing_line (line_at done i) _ (λ s e. good-found missing_line (line_at done j) _ (λ u f.
+    good-found NotEquation (nameless_as_equation s.concl) _ (λ q a.
+    good-holds (same_nameless q.1 u.concl) MiddleDiffers (nameless_gives (nameless_union s.hyps u.hyps) q.2) (union-whole s.hyps u.hyps h.0 g.0, (equation-whole s.concl q h.1 a).1))))
+good-step sig named done (by_impI p i) n d t = good-found MissingLine (line_at done i) _ (λ s e. let h = number-whole done i s d e in
+    good-holds (nameless_has_type sig p bool) NotBool (nameless_gives (nameless_without p s.hyps) (nameless_implies p s.concl)) (without-whole p s.hyps h.0, ((tt, term-whole sig p t), h.1)))
+good-step sig named done (by_mp i j) n d t = good-found MissingLine (line_at done i) _ (λ s e. good-found MissingLine (line_at done j) _ (λ u f.
     let h = number-whole done i s d e in let g = number-whole done j u d f in
-    good-found not_implication (nameless_as_implication s.concl) _ (λ q a.
-    good-holds (same_nameless q.0 u.concl) middle_differs (nameless_gives (nameless_union s.hyps u.hyps) q.1) (union-whole s.hyps u.hyps h.0 g.0, (implication-whole s.concl q h.1 a).1))))
-good-step sig named done (line_allI x ty i) n d t = good-found missing_line (line_at done i) _ (λ s e. let h = number-whole done i s d e in
-    good-holds (not (list_any (nameless_has_free x ty) s.hyps)) variable_in_hypothesis (nameless_gives s.hyps (nameless_for_all ty (nameless_abstraction ty (abstracted 0 x ty s.concl)))) (h.0, (tt, abstracted-whole 0 x ty s.concl h.1)))
-good-step sig named done (line_allE p i) n d t = good-found missing_line (line_at done i) _ (λ s e. let h = number-whole done i s d e in
-    good-found not_forall (nameless_as_forall s.concl) _ (λ a f.
-    good-holds (nameless_has_type sig p a.0) type_differs (nameless_gives s.hyps (nameless_at a.1 p)) (h.0, at-whole a.1 p (forall-whole s.concl a h.1 f) (term-whole sig p t))))
-good-step sig named done (line_iff i j) n d t = good-found missing_line (line_at done i) _ (λ s e. good-found missing_line (line_at done j) _ (λ u f.
+    good-found NotImplication (nameless_as_implication s.concl) _ (λ q a.
+    good-holds (same_nameless q.0 u.concl) MiddleDiffers (nameless_gives (nameless_union s.hyps u.hyps) q.1) (union-whole s.hyps u.hyps h.0 g.0, (implication-whole s.concl q h.1 a).1))))
+good-step sig named done (by_allI x ty i) n d t = good-found MissingLine (line_at done i) _ (λ s e. let h = number-whole done i s d e in
+    good-holds (not (list_any (nameless_has_free x ty) s.hyps)) VariableInHypothesis (nameless_gives s.hyps (nameless_for_all ty (nameless_abstraction ty (abstracted 0 x ty s.concl)))) (h.0, (tt, abstracted-whole 0 x ty s.concl h.1)))
+good-step sig named done (by_allE p i) n d t = good-found MissingLine (line_at done i) _ (λ s e. let h = number-whole done i s d e in
+    good-found NotForall (nameless_as_forall s.concl) _ (λ a f.
+    good-holds (nameless_has_type sig p a.0) TypeDiffers (nameless_gives s.hyps (nameless_at a.1 p)) (h.0, at-whole a.1 p (forall-whole s.concl a h.1 f) (term-whole sig p t))))
+good-step sig named done (by_iff i j) n d t = good-found MissingLine (line_at done i) _ (λ s e. good-found MissingLine (line_at done j) _ (λ u f.
     let h = number-whole done i s d e in let g = number-whole done j u d f in
-    good-found not_implication (nameless_as_implication s.concl) _ (λ q a. good-found not_implication (nameless_as_implication u.concl) _ (λ r b.
+    good-found NotImplication (nameless_as_implication s.concl) _ (λ q a. good-found NotImplication (nameless_as_implication u.concl) _ (λ r b.
     let k = implication-whole s.concl q h.1 a in
-    good-holds (same_nameless q.0 r.1 && same_nameless q.1 r.0) middle_differs (nameless_gives (nameless_union s.hyps u.hyps) (nameless_equation bool q.0 q.1)) (union-whole s.hyps u.hyps h.0 g.0, ((tt, k.0), k.1))))))
-good-step sig named done (line_inst x ty p i) n d t =
+    good-holds (same_nameless q.0 r.1 && same_nameless q.1 r.0) MiddleDiffers (nameless_gives (nameless_union s.hyps u.hyps) (nameless_equation bool q.0 q.1)) (union-whole s.hyps u.hyps h.0 g.0, ((tt, k.0), k.1))))))
+good-step sig named done (by_inst x ty p i) n d t =
     let w = term-whole sig p (both-none (type_fault sig ty) (nameless_fault sig p) t).1 in
-    good-found missing_line (line_at done i) _ (λ s e. let h = number-whole done i s d e in
-    good-holds (nameless_has_type sig p ty) type_differs (nameless_gives (nameless_union [] (map (nameless_replaced x ty p) s.hyps)) (nameless_replaced x ty p s.concl)) (
+    good-found MissingLine (line_at done i) _ (λ s e. let h = number-whole done i s d e in
+    good-holds (nameless_has_type sig p ty) TypeDiffers (nameless_gives (nameless_union [] (map (nameless_replaced x ty p) s.hyps)) (nameless_replaced x ty p s.concl)) (
       union-whole [] (map (nameless_replaced x ty p) s.hyps) tt
           (map-whole (nameless_replaced x ty p) (λ m v. replaced-whole 0 x ty p m w v) s.hyps h.0),
       replaced-whole 0 x ty p s.concl w h.1,
     ))
-good-step sig named done (line_tinst a ty i) n d t = let m : TypeMap = (a, ty) ∷ [] in
-    good-found missing_line (line_at done i) _ (λ s e. let h = number-whole done i s d e in
+good-step sig named done (by_tinst a ty i) n d t = let m : TypeMap = (a, ty) ∷ [] in
+    good-found MissingLine (line_at done i) _ (λ s e. let h = number-whole done i s d e in
     (union-whole [] (map (nameless_instance m) s.hyps) tt (map-whole (nameless_instance m) (λ k v. types-whole 0 m k v) s.hyps h.0), types-whole 0 m s.concl h.1))
-good-step sig named done (line_select p) n d t = let w = term-whole sig p t in let v = further 0 1 p (omega arith) w in
-    good-found type_differs (predicate_over (nameless_type_of sig p)) _ (λ ty e. (tt, (tt, ((tt, (v, omega arith)), (v, (tt, v))))))
-good-step sig named done (line_ccontr p) n d t = let w = term-whole sig p t in
-    good-holds (nameless_has_type sig p bool) not_bool (nameless_gives [] (nameless_implies (nameless_implies (nameless_implies p nameless_falsity) nameless_falsity) p)) (tt, ((tt, ((tt, ((tt, w), (tt, omega arith))), (tt, omega arith))), w))
-good-step sig named done (line_thm l) n d t = good-found unknown_label (found l named) _ (λ p e. (tt, statement-whole named l p n e))
+good-step sig named done (by_select p) n d t = let w = term-whole sig p t in let v = further 0 1 p (omega arith) w in
+    good-found TypeDiffers (predicate_over (nameless_type_of sig p)) _ (λ ty e. (tt, (tt, ((tt, (v, omega arith)), (v, (tt, v))))))
+good-step sig named done (by_ccontr p) n d t = let w = term-whole sig p t in
+    good-holds (nameless_has_type sig p bool) NotBool (nameless_gives [] (nameless_implies (nameless_implies (nameless_implies p nameless_falsity) nameless_falsity) p)) (tt, ((tt, ((tt, ((tt, w), (tt, omega arith))), (tt, omega arith))), w))
+good-step sig named done (by_thm l) n d t = good-found UnknownLabel (found l named) _ (λ p e. (tt, statement-whole named l p n e))
 
-pub step_stays_whole : (sig : Signature) (named : List (Chars × Nameless)) (done : List NamelessSequent) (line : NamelessRule) (s : NamelessSequent)
-    → AreWholeStatements named → AreWholeSequents done → nameless_rule_fault sig line ≡ None → nameless_step sig named done line ≡ Ok s → IsWholeSequent s
+pub step_stays_whole : (sig : Signature) (named : List (Chars × Nameless)) (done : List NamelessSequent) (line : Rule Nameless) (s : NamelessSequent)
+    → AreWholeStatements named → AreWholeSequents done → rule_fault sig (nameless_fault sig) line ≡ None → nameless_step sig named done line ≡ Ok s → IsWholeSequent s
 step_stays_whole sig named done line s n d t e = subst Good e (good-step sig named done line n d t)

@@ -80,7 +80,7 @@ pub keeps-items : (ctx : Context) (items : List Item) → Keeps ctx (context_of 
 keeps-items ctx [] = keeps-same ctx
 keeps-items ctx (item ∷ items) = keeps-trans ctx (with_item ctx item) (context_of (with_item ctx item) items) (keeps-item ctx item) (keeps-items (with_item ctx item) items)
 
-pub derivation_over_later_items : (ctx : Context) (items : List Item) (done : List Sequent) (lines : List Rule) (ss : List Sequent)
+pub derivation_over_later_items : (ctx : Context) (items : List Item) (done : List Sequent) (lines : List (Rule TermTree)) (ss : List Sequent)
     → Derives ctx.signature ctx.statements done lines ss → Derives (context_of ctx items).signature (context_of ctx items).statements done lines ss
 derivation_over_later_items ctx items done lines ss d =
     let k = keeps-items ctx items in

@@ -4,7 +4,8 @@ use Rattle.std.specs.Result.{result_unwrap_or}
 use Rattle.lt_definitions.specs.Types.{Chars, found, TypeTree, TypeTrees, type_variable, type_constructor, no_types, type_and, bool, fun, listed, row}
 use Rattle.lt_definitions.specs.Terms.{TermTree, free_variable, bound_name, constant, application, abstraction, equation, implies, falsity}
 use Rattle.lt_definitions.specs.Typing.{Signature, Fault, earlier, constructor_fault, type_fault, types_fault, typed, HasType, is_of_type}
-use Rattle.lt_definitions.specs.Rules.{Sequent, not_bool, not_redex, not_forall, type_differs, Rule, by_assume, by_weaken, by_refl, by_abs, by_allI, by_tinst, by_beta, by_eta, by_impI, by_allE, by_inst, by_select, by_ccontr, gives, where_holds, with_found, with_line, union, without, distinct, as_forall, at_argument, beta_of, eta_of, predicate_over, selection, step}
+use Rattle.lt_definitions.specs.Rules.{Sequent, Rule, by_assume, by_weaken, by_refl, by_abs, by_allI, by_tinst, by_beta, by_eta, by_impI, by_allE, by_inst, by_select, by_ccontr, gives, where_holds, with_found, with_line, union, without, distinct, as_forall, at_argument, beta_of, eta_of, predicate_over, selection, step}
+use Rattle.lt_definitions.specs.declared.reason.Reason.TheVariants.{NotBool, NotRedex, NotForall, TypeDiffers}
 use Rattle.lt_definitions.specs.Binding.{replaced}
 use Rattle.lt_definitions.specs.Derivations.{rule_fault, term_fault, Derives, IsPartOf}
 use Rattle.lt_nameless.proofs.Typings.{has-typed}
@@ -57,7 +58,7 @@ fault_in (Err f) = Some f
 term-more : (sig more : Signature) → IsPartOf sig more → (t : TermTree) → term_fault sig t ≡ None → term_fault more t ≡ None
 term-more sig more h t e = ap fault_in (sym (typed-more sig more h t e)) ∙ e
 
-pub rule-more : (sig more : Signature) → IsPartOf sig more → (line : Rule) → rule_fault sig line ≡ None → rule_fault more line ≡ None
+pub rule-more : (sig more : Signature) → IsPartOf sig more → (line : Rule TermTree) → rule_fault sig (term_fault sig) line ≡ None → rule_fault more (term_fault more) line ≡ None
 rule-more sig more h (by_assume p) e = term-more sig more h p e
 rule-more sig more h (by_weaken p i) e = term-more sig more h p e
 rule-more sig more h (by_refl p) e = term-more sig more h p e
@@ -75,32 +76,32 @@ rule-more sig more h (by_select p) e = term-more sig more h p e
 rule-more sig more h (by_ccontr p) e = term-more sig more h p e
 rule-more sig more h line e = refl
 
-step-more : (sig more : Signature) → IsPartOf sig more → (named : List (Chars × TermTree)) (done : List Sequent) (line : Rule) → rule_fault sig line ≡ None
+step-more : (sig more : Signature) → IsPartOf sig more → (named : List (Chars × TermTree)) (done : List Sequent) (line : Rule TermTree) → rule_fault sig (term_fault sig) line ≡ None
     → step sig named done line ≡ step more named done line
-step-more sig more h named done (by_assume p) e = λ j. where_holds (is_of_type bool (typed-more sig more h p e j)) not_bool (gives (p ∷ []) p)
+step-more sig more h named done (by_assume p) e = λ j. where_holds (is_of_type bool (typed-more sig more h p e j)) NotBool (gives (p ∷ []) p)
 step-more sig more h named done (by_weaken p i) e = λ j. with_line done i (λ s.
-    where_holds (is_of_type bool (typed-more sig more h p e j)) not_bool (gives (union s.hyps (p ∷ [])) s.concl))
+    where_holds (is_of_type bool (typed-more sig more h p e j)) NotBool (gives (union s.hyps (p ∷ [])) s.concl))
 step-more sig more h named done (by_refl t) e = λ j. gives [] (equation (result_unwrap_or (typed-more sig more h t e j) bool) t t)
 step-more sig more h named done (by_beta t) e = λ j.
-    with_found not_redex (beta_of t) (λ b. gives [] (equation (result_unwrap_or (typed-more sig more h t e j) bool) t b))
+    with_found NotRedex (beta_of t) (λ b. gives [] (equation (result_unwrap_or (typed-more sig more h t e j) bool) t b))
 step-more sig more h named done (by_eta t) e = λ j.
-    with_found not_redex (eta_of t) (λ f. gives [] (equation (result_unwrap_or (typed-more sig more h t e j) bool) t f))
+    with_found NotRedex (eta_of t) (λ f. gives [] (equation (result_unwrap_or (typed-more sig more h t e j) bool) t f))
 step-more sig more h named done (by_impI p i) e = λ j. with_line done i (λ s.
-    where_holds (is_of_type bool (typed-more sig more h p e j)) not_bool (gives (without p s.hyps) (implies p s.concl)))
+    where_holds (is_of_type bool (typed-more sig more h p e j)) NotBool (gives (without p s.hyps) (implies p s.concl)))
 step-more sig more h named done (by_allE t i) e = λ j. with_line done i (λ s.
-    with_found not_forall (as_forall s.concl) (λ a.
-    where_holds (is_of_type a.0 (typed-more sig more h t e j)) type_differs (gives s.hyps (at_argument a.1 t))))
+    with_found NotForall (as_forall s.concl) (λ a.
+    where_holds (is_of_type a.0 (typed-more sig more h t e j)) TypeDiffers (gives s.hyps (at_argument a.1 t))))
 step-more sig more h named done (by_inst x ty t i) e =
     let k = both-none (type_fault sig ty) (term_fault sig t) e in λ j. with_line done i (λ s.
-    where_holds (is_of_type ty (typed-more sig more h t k.1 j)) type_differs
+    where_holds (is_of_type ty (typed-more sig more h t k.1 j)) TypeDiffers
     (gives (distinct (map (replaced x ty t) s.hyps)) (replaced x ty t s.concl)))
 step-more sig more h named done (by_select p) e = λ j.
-    with_found type_differs (predicate_over (result_unwrap_or (typed-more sig more h p e j) bool)) (λ ty. gives [] (selection ty p))
+    with_found TypeDiffers (predicate_over (result_unwrap_or (typed-more sig more h p e j) bool)) (λ ty. gives [] (selection ty p))
 step-more sig more h named done (by_ccontr p) e = λ j.
-    where_holds (is_of_type bool (typed-more sig more h p e j)) not_bool (gives [] (implies (implies (implies p falsity) falsity) p))
+    where_holds (is_of_type bool (typed-more sig more h p e j)) NotBool (gives [] (implies (implies (implies p falsity) falsity) p))
 step-more sig more h named done line e = refl
 
-pub derivation_over_more_declarations : (sig more : Signature) (named : List (Chars × TermTree)) (done : List Sequent) (lines : List Rule) (ss : List Sequent)
+pub derivation_over_more_declarations : (sig more : Signature) (named : List (Chars × TermTree)) (done : List Sequent) (lines : List (Rule TermTree)) (ss : List Sequent)
     → IsPartOf sig more → Derives sig named done lines ss → Derives more named done lines ss
 derivation_over_more_declarations sig more named done [] [] h d = tt
 derivation_over_more_declarations sig more named done (line ∷ lines) (s ∷ ss) h d = (

@@ -4,7 +4,8 @@ use Rattle.std.specs.Prelude.{Contains}
 use Rattle.lt_definitions.specs.Types.{Chars, same_name, found}
 use Rattle.lt_definitions.specs.Terms.{TermTree}
 use Rattle.lt_definitions.specs.Typing.{Signature}
-use Rattle.lt_definitions.specs.Rules.{Sequent, Reason, Rule, by_thm, Outcome, with_found, step}
+use Rattle.lt_definitions.specs.Rules.{Sequent, Rule, by_thm, Outcome, with_found, step}
+use Rattle.lt_definitions.specs.declared.reason.Reason.{Reason}
 use Rattle.lt_definitions.specs.Derivations.{Derives, AreOnce, AreAmong}
 use Rattle.lt_definitions.proofs.SameNames.{bool_cases, name-true, true-name}
 
@@ -47,18 +48,18 @@ with_found-more : (r : Reason) (o u : Option TermTree) (f : TermTree → Outcome
 with_found-more r None u f s k e = absurd (cc e)
 with_found-more r (Some p) u f s k e = ap (λ v. with_found r v f) (k p refl) ∙ e
 
-step-more : (sig : Signature) (named more : Named) (done : List Sequent) (line : Rule) (s : Sequent)
+step-more : (sig : Signature) (named more : Named) (done : List Sequent) (line : Rule TermTree) (s : Sequent)
     → ((l : Chars) (p : TermTree) → found l named ≡ Some p → found l more ≡ Some p) → step sig named done line ≡ Ok s → step sig more done line ≡ Ok s
 step-more sig named more done (by_thm l) s k e = with_found-more _ (found l named) (found l more) _ s (k l) e
 step-more sig named more done line s k e = e
 
-pub derives-more : (sig : Signature) (named more : Named) (done : List Sequent) (lines : List Rule) (ss : List Sequent)
+pub derives-more : (sig : Signature) (named more : Named) (done : List Sequent) (lines : List (Rule TermTree)) (ss : List Sequent)
     → ((l : Chars) (p : TermTree) → found l named ≡ Some p → found l more ≡ Some p) → Derives sig named done lines ss → Derives sig more done lines ss
 derives-more sig named more done [] [] k d = tt
 derives-more sig named more done (line ∷ lines) (s ∷ ss) k d =
     (d.0, step-more sig named more done line s k d.1, derives-more sig named more (done ++ s ∷ []) lines ss k d.2)
 derives-more sig named more done lines ss k d = absurd d
 
-pub derivation_over_more : (sig : Signature) (named more : Named) (done : List Sequent) (lines : List Rule) (ss : List Sequent)
+pub derivation_over_more : (sig : Signature) (named more : Named) (done : List Sequent) (lines : List (Rule TermTree)) (ss : List Sequent)
     → AreOnce more → AreAmong named more → Derives sig named done lines ss → Derives sig more done lines ss
 derivation_over_more sig named more done lines ss once among d = derives-more sig named more done lines ss (found-more named more once among) d

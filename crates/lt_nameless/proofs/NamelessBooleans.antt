@@ -4,11 +4,11 @@ use Rattle.std.specs.List.{All}
 use Rattle.lt_definitions.specs.Types.{Chars, same_name, TypeTree, bool, found}
 use Rattle.lt_definitions.specs.Terms.{TermTree}
 use Rattle.lt_definitions.specs.Typing.{Signature, Fault, type_fault, HasType}
-use Rattle.lt_definitions.specs.Rules.{Sequent, Rule, by_assume, by_weaken, by_refl, by_sym, by_trans, by_cong, by_abs, by_beta, by_eta, by_eqmp, by_impI, by_mp, by_allI, by_allE, by_iff, by_inst, by_tinst, by_select, by_ccontr, by_thm, Outcome, step}
-use Rattle.lt_definitions.specs.Derivations.{fault_of, rule_fault}
+use Rattle.lt_definitions.specs.Rules.{Sequent, Rule, rule_map, by_assume, by_weaken, by_refl, by_sym, by_trans, by_cong, by_abs, by_beta, by_eta, by_eqmp, by_impI, by_mp, by_allI, by_allE, by_iff, by_inst, by_tinst, by_select, by_ccontr, by_thm, Outcome, step}
+use Rattle.lt_definitions.specs.Derivations.{fault_of, rule_fault, term_fault}
 use Rattle.lt_nameless.specs.Booleans.{IsSoundSignature, IsBoolean, IsBooleanSequent}
 use Rattle.lt_nameless.specs.Nameless.{Nameless, nameless, named, NamelessSequent, nameless_sequent}
-use Rattle.lt_nameless.specs.NamelessRules.{nameless_typed, nameless_fault, nameless_rule_fault, NamelessRule, line_assume, line_weaken, line_refl, line_sym, line_trans, line_cong, line_abs, line_beta, line_eta, line_eqmp, line_impI, line_mp, line_allI, line_allE, line_iff, line_inst, line_tinst, line_select, line_ccontr, line_thm, nameless_rule, nameless_step, nameless_outcome, nameless_statements, IsBooleanNameless, IsBooleanNamelessSequent}
+use Rattle.lt_nameless.specs.NamelessRules.{nameless_typed, nameless_fault, nameless_rule, nameless_step, nameless_outcome, nameless_statements, IsBooleanNameless, IsBooleanNamelessSequent}
 use Rattle.lt_definitions.proofs.SameNames.{bool_cases}
 use Rattle.lt_nameless.proofs.Typings.{typed-has, has-typed}
 use Rattle.lt_nameless.proofs.NamelessTyping.{typed-nameless}
@@ -35,40 +35,21 @@ back-sound sig n e = let h = has_some (nameless_typed sig [] n) e in back sig n 
 
 -- of lines
 
-abbrev named_rule : NamelessRule → Rule
-named_rule (line_assume p) = by_assume (named 0 p)
-named_rule (line_weaken p i) = by_weaken (named 0 p) i
-named_rule (line_refl t) = by_refl (named 0 t)
-named_rule (line_sym i) = by_sym i
-named_rule (line_trans i j) = by_trans i j
-named_rule (line_cong i j) = by_cong i j
-named_rule (line_abs x ty i) = by_abs x ty i
-named_rule (line_beta t) = by_beta (named 0 t)
-named_rule (line_eta t) = by_eta (named 0 t)
-named_rule (line_eqmp i j) = by_eqmp i j
-named_rule (line_impI p i) = by_impI (named 0 p) i
-named_rule (line_mp i j) = by_mp i j
-named_rule (line_allI x ty i) = by_allI x ty i
-named_rule (line_allE t i) = by_allE (named 0 t) i
-named_rule (line_iff i j) = by_iff i j
-named_rule (line_inst x ty t i) = by_inst x ty (named 0 t) i
-named_rule (line_tinst a ty i) = by_tinst a ty i
-named_rule (line_select p) = by_select (named 0 p)
-named_rule (line_ccontr p) = by_ccontr (named 0 p)
-named_rule (line_thm l) = by_thm l
+abbrev named_rule : Rule Nameless → Rule TermTree
+named_rule = rule_map (named 0)
 
-back-rule : (sig : Signature) (line : NamelessRule) → nameless_rule_fault sig line ≡ None → nameless_rule (named_rule line) ≡ line
-back-rule sig (line_assume p) e = ap line_assume (back-sound sig p e)
-back-rule sig (line_weaken p i) e = ap (λ (n : Nameless). line_weaken n i) (back-sound sig p e)
-back-rule sig (line_refl t) e = ap line_refl (back-sound sig t e)
-back-rule sig (line_beta t) e = ap line_beta (back-sound sig t e)
-back-rule sig (line_eta t) e = ap line_eta (back-sound sig t e)
-back-rule sig (line_impI p i) e = ap (λ (n : Nameless). line_impI n i) (back-sound sig p e)
-back-rule sig (line_allE t i) e = ap (λ (n : Nameless). line_allE n i) (back-sound sig t e)
-back-rule sig (line_inst x ty t i) e =
-    ap (λ (n : Nameless). line_inst x ty n i) (back-sound sig t (both-none (type_fault sig ty) (nameless_fault sig t) e).1)
-back-rule sig (line_select p) e = ap line_select (back-sound sig p e)
-back-rule sig (line_ccontr p) e = ap line_ccontr (back-sound sig p e)
+back-rule : (sig : Signature) (line : Rule Nameless) → rule_fault sig (nameless_fault sig) line ≡ None → nameless_rule (named_rule line) ≡ line
+back-rule sig (by_assume p) e = ap by_assume (back-sound sig p e)
+back-rule sig (by_weaken p i) e = ap (λ (n : Nameless). by_weaken n i) (back-sound sig p e)
+back-rule sig (by_refl t) e = ap by_refl (back-sound sig t e)
+back-rule sig (by_beta t) e = ap by_beta (back-sound sig t e)
+back-rule sig (by_eta t) e = ap by_eta (back-sound sig t e)
+back-rule sig (by_impI p i) e = ap (λ (n : Nameless). by_impI n i) (back-sound sig p e)
+back-rule sig (by_allE t i) e = ap (λ (n : Nameless). by_allE n i) (back-sound sig t e)
+back-rule sig (by_inst x ty t i) e =
+    ap (λ (n : Nameless). by_inst x ty n i) (back-sound sig t (both-none (type_fault sig ty) (nameless_fault sig t) e).1)
+back-rule sig (by_select p) e = ap by_select (back-sound sig p e)
+back-rule sig (by_ccontr p) e = ap by_ccontr (back-sound sig p e)
 back-rule sig line e = refl
 
 -- of lists of terms, of sequents and of statements
@@ -146,14 +127,14 @@ outcome-ok : (o : Outcome) (s : NamelessSequent) → nameless_outcome o ≡ Ok s
 outcome-ok (Ok u) s e = (u, refl, let same : nameless_sequent u ≡ s = cc e in same)
 outcome-ok (Err r) s e = absurd (cc e)
 
-pub nameless_rules_keep_booleans : (sig : Signature) (stored : List (Chars × Nameless)) (done : List NamelessSequent) (line : NamelessRule) (s : NamelessSequent)
+pub nameless_rules_keep_booleans : (sig : Signature) (stored : List (Chars × Nameless)) (done : List NamelessSequent) (line : Rule Nameless) (s : NamelessSequent)
     → IsSoundSignature sig → All (λ p. IsBooleanNameless sig p.1) stored → All (IsBooleanNamelessSequent sig) done
-    → nameless_rule_fault sig line ≡ None → nameless_step sig stored done line ≡ Ok s → IsBooleanNamelessSequent sig s
+    → rule_fault sig (nameless_fault sig) line ≡ None → nameless_step sig stored done line ≡ Ok s → IsBooleanNamelessSequent sig s
 nameless_rules_keep_booleans sig stored done line s h n d t e =
     let stated : Each (IsStated sig) stored = each-of (IsStated sig) stored n in
     let goals : Each (IsBooleanNamelessSequent sig) done = each-of (IsBooleanNamelessSequent sig) done d in
-    let sound : rule_fault sig (named_rule line) ≡ None =
-    faults_are_nameless sig (named_rule line) ∙ ap (nameless_rule_fault sig) (back-rule sig line t) ∙ t in
+    let sound : rule_fault sig (term_fault sig) (named_rule line) ≡ None =
+    faults_are_nameless sig (named_rule line) ∙ ap (rule_fault sig (nameless_fault sig)) (back-rule sig line t) ∙ t in
     let same : nameless_outcome (step sig (named_statements stored) (map named_sequent done) (named_rule line)) ≡ Ok s =
     step_is_nameless sig (named_statements stored) (map named_sequent done) (named_rule line) sound
     ∙ (λ i. nameless_step sig (back-statements sig stored stated i)

@@ -1,7 +1,8 @@
 -- Outcomes that are alpha-equal are those with one nameless form.
 use Rattle.std.proofs.Common.{◌≡◌, ◌↔◌, List, [], ◌∷◌, Ok, Err, map, refl, ap}
 use Rattle.lt_definitions.specs.Terms.{TermTree}
-use Rattle.lt_definitions.specs.Rules.{Reason, Outcome, AreAlphaEqual, IsAlphaEqualOutcome}
+use Rattle.lt_definitions.specs.Rules.{Outcome, AreAlphaEqual, IsAlphaEqualOutcome}
+use Rattle.lt_definitions.specs.declared.reason.Reason.{Reason}
 use Rattle.lt_nameless.specs.Nameless.{nameless, NamelessSequent, nameless_sequent}
 use Rattle.lt_nameless.specs.NamelessRules.{NamelessOutcome, nameless_gives, nameless_outcome}
 use Rattle.lt_nameless.proofs.Alphas.{alpha-nameless, nameless-alpha}

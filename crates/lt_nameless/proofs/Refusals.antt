@@ -276,7 +276,7 @@ proof-ok t (Ok all) e = (all, refl, not-false (is_proved t (last_of all)) (where
 proof-ok t (Err (n, ill_typed f)) e = absurd (cc e)
 proof-ok t (Err (n, no_step r)) e = absurd (cc e)
 
-proves-is : (ctx : Context) (t : TermTree) (lines : List Rule) → proof_test t (derived ctx.signature ctx.statements [] lines) ≡ None → Proves ctx lines t
+proves-is : (ctx : Context) (t : TermTree) (lines : List (Rule TermTree)) → proof_test t (derived ctx.signature ctx.statements [] lines) ≡ None → Proves ctx lines t
 proves-is ctx t lines e =
     let h = proof-ok t (derived ctx.signature ctx.statements [] lines) e in
     let d = derived-derives ctx.signature ctx.statements [] lines h.0 h.1 in
@@ -284,7 +284,7 @@ proves-is ctx t lines e =
     let l = last-is h.0 p.0 p.1 in
     (l.0, p.0, subst (λ (ss : List Sequent). Derives ctx.signature ctx.statements [] lines ss) (sym d.1 ∙ l.1) d.2, p.2, p.3)
 
-is-proves : (ctx : Context) (t : TermTree) (lines : List Rule) → Proves ctx lines t → proof_test t (derived ctx.signature ctx.statements [] lines) ≡ None
+is-proves : (ctx : Context) (t : TermTree) (lines : List (Rule TermTree)) → Proves ctx lines t → proof_test t (derived ctx.signature ctx.statements [] lines) ≡ None
 is-proves ctx t lines h =
     ap (proof_test t) (derives-derived ctx.signature ctx.statements [] lines (h.0 ++ h.1 ∷ []) h.2)
     ∙ ap (λ o. refused_where (not (is_proved t o)) (not_proved o)) (is-last h.0 h.1)

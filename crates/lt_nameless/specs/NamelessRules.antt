@@ -7,7 +7,9 @@ use Rattle.std.specs.List.{All, list_any}
 use Rattle.lt_definitions.specs.Types.{Chars, same_name, found, TypeTree, TypeMap, bool, fun, row, same_type, same_types, type_instance}
 use Rattle.lt_definitions.specs.Terms.{TermTree}
 use Rattle.lt_definitions.specs.Typing.{Signature, Fault, earlier, unbound, type_fault, with_ok, unless, bound_type, constant_type, applied_type, is_of_type}
-use Rattle.lt_definitions.specs.Rules.{Reason, not_bool, not_equation, middle_differs, type_differs, variable_in_hypothesis, not_redex, not_implication, not_forall, unknown_label, Rule, by_assume, by_weaken, by_refl, by_sym, by_trans, by_cong, by_abs, by_beta, by_eta, by_eqmp, by_impI, by_mp, by_allI, by_allE, by_iff, by_inst, by_tinst, by_select, by_ccontr, by_thm, Outcome, where_holds, with_found, with_line, with_lines, joined_type, predicate_over}
+use Rattle.lt_definitions.specs.Rules.{Rule, rule_map, by_assume, by_weaken, by_refl, by_sym, by_trans, by_cong, by_abs, by_beta, by_eta, by_eqmp, by_impI, by_mp, by_allI, by_allE, by_iff, by_inst, by_tinst, by_select, by_ccontr, by_thm, Outcome, where_holds, with_found, with_line, with_lines, joined_type, predicate_over}
+use Rattle.lt_definitions.specs.declared.reason.Reason.{Reason}
+use Rattle.lt_definitions.specs.declared.reason.Reason.TheVariants.{NotBool, NotEquation, MiddleDiffers, TypeDiffers, VariableInHypothesis, NotRedex, NotImplication, NotForall, UnknownLabel}
 use Rattle.lt_definitions.specs.Derivations.{fault_of}
 use Rattle.lt_nameless.specs.Nameless.{Nameless, nameless_free, nameless_bound, nameless_loose, nameless_constant, nameless_application, nameless_abstraction, nameless, NamelessSequent, nameless_sequent, IsWhole}
 
@@ -149,72 +151,13 @@ nameless_union hs (k ∷ ks) = nameless_union (if list_any (same_nameless k) hs 
 abbrev pub nameless_without : Nameless → List Nameless → List Nameless
 nameless_without p hs = filter (λ h. not (same_nameless p h)) hs
 
--- A line of a derivation with nameless terms.
-pub data NamelessRule : Type 0 where
-  line_assume : (p : Nameless) → NamelessRule
-  line_weaken : (p : Nameless) (i : ℕ) → NamelessRule
-  line_refl : (t : Nameless) → NamelessRule
-  line_sym : (i : ℕ) → NamelessRule
-  line_trans : (i j : ℕ) → NamelessRule
-  line_cong : (i j : ℕ) → NamelessRule
-  line_abs : (x : Chars) (ty : TypeTree) (i : ℕ) → NamelessRule
-  line_beta : (t : Nameless) → NamelessRule
-  line_eta : (t : Nameless) → NamelessRule
-  line_eqmp : (i j : ℕ) → NamelessRule
-  line_impI : (p : Nameless) (i : ℕ) → NamelessRule
-  line_mp : (i j : ℕ) → NamelessRule
-  line_allI : (x : Chars) (ty : TypeTree) (i : ℕ) → NamelessRule
-  line_allE : (t : Nameless) (i : ℕ) → NamelessRule
-  line_iff : (i j : ℕ) → NamelessRule
-  line_inst : (x : Chars) (ty : TypeTree) (t : Nameless) (i : ℕ) → NamelessRule
-  line_tinst : (a : Chars) (ty : TypeTree) (i : ℕ) → NamelessRule
-  line_select : (p : Nameless) → NamelessRule
-  line_ccontr : (p : Nameless) → NamelessRule
-  line_thm : (label : Chars) → NamelessRule
-
 -- the nameless form of a line
-abbrev pub nameless_rule : Rule → NamelessRule
-nameless_rule (by_assume p) = line_assume (nameless [] p)
-nameless_rule (by_weaken p i) = line_weaken (nameless [] p) i
-nameless_rule (by_refl t) = line_refl (nameless [] t)
-nameless_rule (by_sym i) = line_sym i
-nameless_rule (by_trans i j) = line_trans i j
-nameless_rule (by_cong i j) = line_cong i j
-nameless_rule (by_abs x ty i) = line_abs x ty i
-nameless_rule (by_beta t) = line_beta (nameless [] t)
-nameless_rule (by_eta t) = line_eta (nameless [] t)
-nameless_rule (by_eqmp i j) = line_eqmp i j
-nameless_rule (by_impI p i) = line_impI (nameless [] p) i
-nameless_rule (by_mp i j) = line_mp i j
-nameless_rule (by_allI x ty i) = line_allI x ty i
-nameless_rule (by_allE t i) = line_allE (nameless [] t) i
-nameless_rule (by_iff i j) = line_iff i j
-nameless_rule (by_inst x ty t i) = line_inst x ty (nameless [] t) i
-nameless_rule (by_tinst a ty i) = line_tinst a ty i
-nameless_rule (by_select p) = line_select (nameless [] p)
-nameless_rule (by_ccontr p) = line_ccontr (nameless [] p)
-nameless_rule (by_thm l) = line_thm l
+abbrev pub nameless_rule : Rule TermTree → Rule Nameless
+nameless_rule = rule_map (nameless [])
 
 -- the first fault of a term under no binder
 abbrev pub nameless_fault : Signature → Nameless → Option Fault
 nameless_fault sig t = fault_of (nameless_typed sig [] t)
-
--- the first fault of a line's types and terms, from the left
-abbrev pub nameless_rule_fault : Signature → NamelessRule → Option Fault
-nameless_rule_fault sig (line_assume p) = nameless_fault sig p
-nameless_rule_fault sig (line_weaken p i) = nameless_fault sig p
-nameless_rule_fault sig (line_refl t) = nameless_fault sig t
-nameless_rule_fault sig (line_abs x ty i) = type_fault sig ty
-nameless_rule_fault sig (line_beta t) = nameless_fault sig t
-nameless_rule_fault sig (line_eta t) = nameless_fault sig t
-nameless_rule_fault sig (line_impI p i) = nameless_fault sig p
-nameless_rule_fault sig (line_allI x ty i) = type_fault sig ty
-nameless_rule_fault sig (line_allE t i) = nameless_fault sig t
-nameless_rule_fault sig (line_inst x ty t i) = earlier (type_fault sig ty) (nameless_fault sig t)
-nameless_rule_fault sig (line_tinst a ty i) = type_fault sig ty
-nameless_rule_fault sig (line_select p) = nameless_fault sig p
-nameless_rule_fault sig (line_ccontr p) = nameless_fault sig p
-nameless_rule_fault sig _ = None
 
 -- A sequent, or the first reason why there is none.
 abbrev pub NamelessOutcome : Type 0
@@ -236,12 +179,15 @@ nameless_statements named = map (λ p. (p.0, nameless [] p.1)) named
 -- p |- p
 abbrev pub nameless_assume_gives : Signature → Nameless → NamelessOutcome
 nameless_assume_gives sig p =
-    where_holds (nameless_has_type sig p bool) not_bool (nameless_gives (p ∷ []) p)
+    where_holds (nameless_has_type sig p bool) NotBool (nameless_gives (p ∷ []) p)
 
 -- from H |- q: H and p |- q
+abbrev pub weakened : Signature → Nameless → NamelessSequent → NamelessOutcome
+weakened sig p s =
+    where_holds (nameless_has_type sig p bool) NotBool (nameless_gives (nameless_union s.hyps (p ∷ [])) s.concl)
+
 abbrev pub nameless_weaken_gives : Signature → List NamelessSequent → Nameless → ℕ → NamelessOutcome
-nameless_weaken_gives sig done p i = with_line done i (λ s.
-    where_holds (nameless_has_type sig p bool) not_bool (nameless_gives (nameless_union s.hyps (p ∷ [])) s.concl))
+nameless_weaken_gives sig done p i = with_line done i (weakened sig p)
 
 -- |- t = t
 abbrev pub nameless_refl_gives : Signature → Nameless → NamelessOutcome
@@ -249,125 +195,156 @@ nameless_refl_gives sig t =
     nameless_gives [] (nameless_equation (nameless_type_of sig t) t t)
 
 -- from H |- s = t: H |- t = s
+abbrev pub turned : NamelessSequent → NamelessOutcome
+turned s = with_found NotEquation (nameless_as_equation s.concl) (λ e.
+    nameless_gives s.hyps (nameless_equation e.0 e.2 e.1))
+
 abbrev pub nameless_sym_gives : List NamelessSequent → ℕ → NamelessOutcome
-nameless_sym_gives done i = with_line done i (λ s.
-    with_found not_equation (nameless_as_equation s.concl) (λ e. nameless_gives s.hyps (nameless_equation e.0 e.2 e.1)))
+nameless_sym_gives done i = with_line done i turned
 
 -- from H |- r = s and K |- s = t: H and K |- r = t
+abbrev pub linked : NamelessSequent → NamelessSequent → NamelessOutcome
+linked s u =
+    with_found NotEquation (nameless_as_equation s.concl) (λ e. with_found NotEquation (nameless_as_equation u.concl) (λ d.
+    where_holds (same_nameless e.2 d.1) MiddleDiffers
+    (nameless_gives (nameless_union s.hyps u.hyps) (nameless_equation e.0 e.1 d.2))))
+
 abbrev pub nameless_trans_gives : List NamelessSequent → ℕ → ℕ → NamelessOutcome
-nameless_trans_gives done i j = with_lines done i j (λ s u.
-    with_found not_equation (nameless_as_equation s.concl) (λ e. with_found not_equation (nameless_as_equation u.concl) (λ d.
-    where_holds (same_nameless e.2 d.1) middle_differs (nameless_gives (nameless_union s.hyps u.hyps) (nameless_equation e.0 e.1 d.2)))))
+nameless_trans_gives done i j = with_lines done i j linked
 
 -- from H |- f = g and K |- a = b: H and K |- f a = g b
+abbrev pub applied_both : NamelessSequent → NamelessSequent → NamelessOutcome
+applied_both s u =
+    with_found NotEquation (nameless_as_equation s.concl) (λ e. with_found NotEquation (nameless_as_equation u.concl) (λ d.
+    with_found TypeDiffers (joined_type e.0 d.0) (λ ty. nameless_gives (nameless_union s.hyps u.hyps)
+    (nameless_equation ty (nameless_application e.1 d.1) (nameless_application e.2 d.2)))))
+
 abbrev pub nameless_cong_gives : List NamelessSequent → ℕ → ℕ → NamelessOutcome
-nameless_cong_gives done i j = with_lines done i j (λ s u.
-    with_found not_equation (nameless_as_equation s.concl) (λ e. with_found not_equation (nameless_as_equation u.concl) (λ d.
-    with_found type_differs (joined_type e.0 d.0) (λ ty. nameless_gives (nameless_union s.hyps u.hyps)
-    (nameless_equation ty (nameless_application e.1 d.1) (nameless_application e.2 d.2))))))
+nameless_cong_gives done i j = with_lines done i j applied_both
 
 -- from H |- s = t: H |- (\x. s) = (\x. t)
+abbrev pub abstracted_both : Chars → TypeTree → NamelessSequent → NamelessOutcome
+abstracted_both x ty s = with_found NotEquation (nameless_as_equation s.concl) (λ e.
+    where_holds (not (list_any (nameless_has_free x ty) s.hyps)) VariableInHypothesis (nameless_gives s.hyps (nameless_equation (fun ty e.0)
+    (nameless_abstraction ty (abstracted 0 x ty e.1)) (nameless_abstraction ty (abstracted 0 x ty e.2)))))
+
 abbrev pub nameless_abs_gives : List NamelessSequent → Chars → TypeTree → ℕ → NamelessOutcome
-nameless_abs_gives done x ty i = with_line done i (λ s.
-    with_found not_equation (nameless_as_equation s.concl) (λ e.
-    where_holds (not (list_any (nameless_has_free x ty) s.hyps)) variable_in_hypothesis
-    (nameless_gives s.hyps (nameless_equation (fun ty e.0) (nameless_abstraction ty (abstracted 0 x ty e.1)) (nameless_abstraction ty (abstracted 0 x ty e.2))))))
+nameless_abs_gives done x ty i = with_line done i (abstracted_both x ty)
 
 -- |- t = b, the body opened
 abbrev pub nameless_beta_gives : Signature → Nameless → NamelessOutcome
 nameless_beta_gives sig t =
-    with_found not_redex (nameless_beta t) (λ b. nameless_gives [] (nameless_equation (nameless_type_of sig t) t b))
+    with_found NotRedex (nameless_beta t) (λ b. nameless_gives [] (nameless_equation (nameless_type_of sig t) t b))
 
 -- |- t = f, the function of an eta redex
 abbrev pub nameless_eta_gives : Signature → Nameless → NamelessOutcome
 nameless_eta_gives sig t =
-    with_found not_redex (nameless_eta t) (λ f. nameless_gives [] (nameless_equation (nameless_type_of sig t) t f))
+    with_found NotRedex (nameless_eta t) (λ f. nameless_gives [] (nameless_equation (nameless_type_of sig t) t f))
 
 -- from H |- p = q and K |- p: H and K |- q
+abbrev pub carried_over : NamelessSequent → NamelessSequent → NamelessOutcome
+carried_over s u = with_found NotEquation (nameless_as_equation s.concl) (λ e.
+    where_holds (same_nameless e.1 u.concl) MiddleDiffers (nameless_gives (nameless_union s.hyps u.hyps) e.2))
+
 abbrev pub nameless_eqmp_gives : List NamelessSequent → ℕ → ℕ → NamelessOutcome
-nameless_eqmp_gives done i j = with_lines done i j (λ s u.
-    with_found not_equation (nameless_as_equation s.concl) (λ e.
-    where_holds (same_nameless e.1 u.concl) middle_differs (nameless_gives (nameless_union s.hyps u.hyps) e.2)))
+nameless_eqmp_gives done i j = with_lines done i j carried_over
 
 -- from H |- q: H without p |- p --> q
+abbrev pub discharged : Signature → Nameless → NamelessSequent → NamelessOutcome
+discharged sig p s =
+    where_holds (nameless_has_type sig p bool) NotBool (nameless_gives (nameless_without p s.hyps) (nameless_implies p s.concl))
+
 abbrev pub nameless_impI_gives : Signature → List NamelessSequent → Nameless → ℕ → NamelessOutcome
-nameless_impI_gives sig done p i = with_line done i (λ s.
-    where_holds (nameless_has_type sig p bool) not_bool (nameless_gives (nameless_without p s.hyps) (nameless_implies p s.concl)))
+nameless_impI_gives sig done p i = with_line done i (discharged sig p)
 
 -- from H |- p --> q and K |- p: H and K |- q
+abbrev pub detached : NamelessSequent → NamelessSequent → NamelessOutcome
+detached s u = with_found NotImplication (nameless_as_implication s.concl) (λ e.
+    where_holds (same_nameless e.0 u.concl) MiddleDiffers (nameless_gives (nameless_union s.hyps u.hyps) e.1))
+
 abbrev pub nameless_mp_gives : List NamelessSequent → ℕ → ℕ → NamelessOutcome
-nameless_mp_gives done i j = with_lines done i j (λ s u.
-    with_found not_implication (nameless_as_implication s.concl) (λ e.
-    where_holds (same_nameless e.0 u.concl) middle_differs (nameless_gives (nameless_union s.hyps u.hyps) e.1)))
+nameless_mp_gives done i j = with_lines done i j detached
 
 -- from H |- p: H |- all x. p
+abbrev pub generalised : Chars → TypeTree → NamelessSequent → NamelessOutcome
+generalised x ty s = where_holds (not (list_any (nameless_has_free x ty) s.hyps)) VariableInHypothesis
+    (nameless_gives s.hyps (nameless_for_all ty (nameless_abstraction ty (abstracted 0 x ty s.concl))))
+
 abbrev pub nameless_allI_gives : List NamelessSequent → Chars → TypeTree → ℕ → NamelessOutcome
-nameless_allI_gives done x ty i = with_line done i (λ s.
-    where_holds (not (list_any (nameless_has_free x ty) s.hyps)) variable_in_hypothesis
-    (nameless_gives s.hyps (nameless_for_all ty (nameless_abstraction ty (abstracted 0 x ty s.concl)))))
+nameless_allI_gives done x ty i = with_line done i (generalised x ty)
 
 -- from H |- all p: H |- p opened by t, or p t
+abbrev pub at_one : Signature → Nameless → NamelessSequent → NamelessOutcome
+at_one sig t s = with_found NotForall (nameless_as_forall s.concl) (λ a.
+    where_holds (nameless_has_type sig t a.0) TypeDiffers (nameless_gives s.hyps (nameless_at a.1 t)))
+
 abbrev pub nameless_allE_gives : Signature → List NamelessSequent → Nameless → ℕ → NamelessOutcome
-nameless_allE_gives sig done t i = with_line done i (λ s.
-    with_found not_forall (nameless_as_forall s.concl) (λ a.
-    where_holds (nameless_has_type sig t a.0) type_differs (nameless_gives s.hyps (nameless_at a.1 t))))
+nameless_allE_gives sig done t i = with_line done i (at_one sig t)
 
 -- from H |- p --> q and K |- q --> p: H and K |- p = q
+abbrev pub both_ways : NamelessSequent → NamelessSequent → NamelessOutcome
+both_ways s u = with_found NotImplication (nameless_as_implication s.concl) (λ e.
+    with_found NotImplication (nameless_as_implication u.concl) (λ d.
+    where_holds (same_nameless e.0 d.1 && same_nameless e.1 d.0) MiddleDiffers
+    (nameless_gives (nameless_union s.hyps u.hyps) (nameless_equation bool e.0 e.1))))
+
 abbrev pub nameless_iff_gives : List NamelessSequent → ℕ → ℕ → NamelessOutcome
-nameless_iff_gives done i j = with_lines done i j (λ s u.
-    with_found not_implication (nameless_as_implication s.concl) (λ e. with_found not_implication (nameless_as_implication u.concl) (λ d.
-    where_holds (same_nameless e.0 d.1 && same_nameless e.1 d.0) middle_differs
-    (nameless_gives (nameless_union s.hyps u.hyps) (nameless_equation bool e.0 e.1)))))
+nameless_iff_gives done i j = with_lines done i j both_ways
 
--- from H |- p: a term replaced
+-- from H |- p: a term put for a free variable throughout
+abbrev pub put_term : Signature → Chars → TypeTree → Nameless → NamelessSequent → NamelessOutcome
+put_term sig x ty t s = where_holds (nameless_has_type sig t ty) TypeDiffers
+    (nameless_gives (nameless_union [] (map (nameless_replaced x ty t) s.hyps)) (nameless_replaced x ty t s.concl))
+
 abbrev pub nameless_inst_gives : Signature → List NamelessSequent → Chars → TypeTree → Nameless → ℕ → NamelessOutcome
-nameless_inst_gives sig done x ty t i = with_line done i (λ s.
-    where_holds (nameless_has_type sig t ty) type_differs
-    (nameless_gives (nameless_union [] (map (nameless_replaced x ty t) s.hyps)) (nameless_replaced x ty t s.concl)))
+nameless_inst_gives sig done x ty t i = with_line done i (put_term sig x ty t)
 
--- from H |- p: a type variable replaced
+-- from H |- p: a type put for a type variable throughout, which is never refused
+abbrev pub put_one : Chars → TypeTree → NamelessSequent → NamelessSequent
+put_one a ty s = let m : TypeMap = (a, ty) ∷ [] in
+    record { hyps = nameless_union [] (map (nameless_instance m) s.hyps); concl = nameless_instance m s.concl }
+
 abbrev pub nameless_tinst_gives : List NamelessSequent → Chars → TypeTree → ℕ → NamelessOutcome
-nameless_tinst_gives done a ty i = with_line done i (λ s. let m : TypeMap = (a, ty) ∷ [] in
-    nameless_gives (nameless_union [] (map (nameless_instance m) s.hyps)) (nameless_instance m s.concl))
+nameless_tinst_gives done a ty i = with_line done i (λ s. Ok (put_one a ty s))
 
 -- |- all x. p x --> p (eps p)
 abbrev pub nameless_select_gives : Signature → Nameless → NamelessOutcome
 nameless_select_gives sig p =
-    with_found type_differs (predicate_over (nameless_type_of sig p)) (λ ty. nameless_gives [] (nameless_selection ty p))
+    with_found TypeDiffers (predicate_over (nameless_type_of sig p)) (λ ty. nameless_gives [] (nameless_selection ty p))
 
 -- |- ((p --> F) --> F) --> p
 abbrev pub nameless_ccontr_gives : Signature → Nameless → NamelessOutcome
 nameless_ccontr_gives sig p =
-    where_holds (nameless_has_type sig p bool) not_bool
+    where_holds (nameless_has_type sig p bool) NotBool
     (nameless_gives [] (nameless_implies (nameless_implies (nameless_implies p nameless_falsity) nameless_falsity) p))
 
 -- |- the statement of the label
 abbrev pub nameless_thm_gives : List (Chars × Nameless) → Chars → NamelessOutcome
 nameless_thm_gives named l =
-    with_found unknown_label (found l named) (λ p. nameless_gives [] p)
+    with_found UnknownLabel (found l named) (λ p. nameless_gives [] p)
 
 -- Step over nameless terms: that it is Step at each named reading is a law.
-abbrev pub nameless_step : Signature → List (Chars × Nameless) → List NamelessSequent → NamelessRule → NamelessOutcome
-nameless_step sig named done (line_assume p) = nameless_assume_gives sig p
-nameless_step sig named done (line_weaken p i) = nameless_weaken_gives sig done p i
-nameless_step sig named done (line_refl t) = nameless_refl_gives sig t
-nameless_step sig named done (line_sym i) = nameless_sym_gives done i
-nameless_step sig named done (line_trans i j) = nameless_trans_gives done i j
-nameless_step sig named done (line_cong i j) = nameless_cong_gives done i j
-nameless_step sig named done (line_abs x ty i) = nameless_abs_gives done x ty i
-nameless_step sig named done (line_beta t) = nameless_beta_gives sig t
-nameless_step sig named done (line_eta t) = nameless_eta_gives sig t
-nameless_step sig named done (line_eqmp i j) = nameless_eqmp_gives done i j
-nameless_step sig named done (line_impI p i) = nameless_impI_gives sig done p i
-nameless_step sig named done (line_mp i j) = nameless_mp_gives done i j
-nameless_step sig named done (line_allI x ty i) = nameless_allI_gives done x ty i
-nameless_step sig named done (line_allE t i) = nameless_allE_gives sig done t i
-nameless_step sig named done (line_iff i j) = nameless_iff_gives done i j
-nameless_step sig named done (line_inst x ty t i) = nameless_inst_gives sig done x ty t i
-nameless_step sig named done (line_tinst a ty i) = nameless_tinst_gives done a ty i
-nameless_step sig named done (line_select p) = nameless_select_gives sig p
-nameless_step sig named done (line_ccontr p) = nameless_ccontr_gives sig p
-nameless_step sig named done (line_thm l) = nameless_thm_gives named l
+abbrev pub nameless_step : Signature → List (Chars × Nameless) → List NamelessSequent → Rule Nameless → NamelessOutcome
+nameless_step sig named done (by_assume p) = nameless_assume_gives sig p
+nameless_step sig named done (by_weaken p i) = nameless_weaken_gives sig done p i
+nameless_step sig named done (by_refl t) = nameless_refl_gives sig t
+nameless_step sig named done (by_sym i) = nameless_sym_gives done i
+nameless_step sig named done (by_trans i j) = nameless_trans_gives done i j
+nameless_step sig named done (by_cong i j) = nameless_cong_gives done i j
+nameless_step sig named done (by_abs x ty i) = nameless_abs_gives done x ty i
+nameless_step sig named done (by_beta t) = nameless_beta_gives sig t
+nameless_step sig named done (by_eta t) = nameless_eta_gives sig t
+nameless_step sig named done (by_eqmp i j) = nameless_eqmp_gives done i j
+nameless_step sig named done (by_impI p i) = nameless_impI_gives sig done p i
+nameless_step sig named done (by_mp i j) = nameless_mp_gives done i j
+nameless_step sig named done (by_allI x ty i) = nameless_allI_gives done x ty i
+nameless_step sig named done (by_allE t i) = nameless_allE_gives sig done t i
+nameless_step sig named done (by_iff i j) = nameless_iff_gives done i j
+nameless_step sig named done (by_inst x ty t i) = nameless_inst_gives sig done x ty t i
+nameless_step sig named done (by_tinst a ty i) = nameless_tinst_gives done a ty i
+nameless_step sig named done (by_select p) = nameless_select_gives sig p
+nameless_step sig named done (by_ccontr p) = nameless_ccontr_gives sig p
+nameless_step sig named done (by_thm l) = nameless_thm_gives named l
 
 -- Each index of each term has its binder.
 abbrev pub AreWhole : List Nameless → Type 0

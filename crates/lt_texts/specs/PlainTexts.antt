@@ -93,7 +93,7 @@ lines_lexemes [] rest = rest
 lines_lexemes (line ∷ lines) rest = line_lexemes line (lines_lexemes lines rest)
 
 -- the rule that is written
-abbrev pub rule_of_text : LineText → Rule
+abbrev pub rule_of_text : LineText → Rule TermTree
 rule_of_text (assume_line p) = by_assume (term_of_text p)
 rule_of_text (impI_line p i) = by_impI (term_of_text p) i
 rule_of_text (mp_line i j) = by_mp i j
