@@ -1,6 +1,8 @@
 -- Opening, closing, replacing, instances and typing of terms, and the same of their nameless forms.
 use Rattle.std.proofs.Common.{◌≡◌, ◌⊎◌, inl, inr, ℕ, zero, suc, ◌<◌, List, [], ◌∷◌, ◌++◌, Bool, true, false, ◌&&◌, ◌||◌, not, if◌then◌else◌, length, replicate, nat_eq, refl, sym, ◌∙◌, ap, subst, arith}
 use Rattle.std.proofs.lemmas.Bool.Decides.{nat_tests}
+use Rattle.std.proofs.lemmas.Bool.{or_parts, or_from, or_cases}
+pub use Rattle.std.proofs.lemmas.Bool.{cond-true as if-true, cond-false as if-false}
 use Rattle.lt_definitions.specs.Types.{Chars, same_name, has_name, TypeTree, TypeMap, same_type, type_instance}
 use Rattle.lt_definitions.specs.Terms.{TermTree, free_variable, bound_name, constant, application, abstraction, has_free, has_loose, term_instance}
 use Rattle.lt_definitions.specs.Binding.{opened, replaced, longest, new_binder, closed_over}
@@ -8,26 +10,6 @@ use Rattle.lt_nameless.specs.Nameless.{Nameless, nameless_free, nameless_bound, 
 use Rattle.lt_nameless.specs.NamelessRules.{instance_at, abstracted, nameless_replaced, nameless_instance, nameless_has_free, has_index}
 use Rattle.lt_definitions.proofs.SameNames.{true-false, bool_cases, name-true, true-name, name-false, false-name}
 use Rattle.lt_nameless.proofs.Alphas.{name-hit, name-miss, IsPlace, place}
-
-pub if-true : {A : Type 0} (b : Bool) (u v : A) → b ≡ true → (if b then u else v) ≡ u
-if-true true u v e = refl
-if-true false u v e = absurd (true-false (sym e))
-
-pub if-false : {A : Type 0} (b : Bool) (u v : A) → b ≡ false → (if b then u else v) ≡ v
-if-false false u v e = refl
-if-false true u v e = absurd (true-false e)
-
-neither : (a b : Bool) → (a || b) ≡ false → (a ≡ false) × (b ≡ false)
-neither false b e = (refl, e)
-neither true b e = absurd (true-false e)
-
-false-either : (a b : Bool) → a ≡ false → b ≡ false → (a || b) ≡ false
-false-either false b d e = e
-false-either true b d e = absurd (true-false d)
-
-either : (a b : Bool) → (a || b) ≡ true → (a ≡ true) ⊎ (b ≡ true)
-either true b e = inl refl
-either false b e = inr e
 
 name-turn : (x y : Chars) → same_name x y ≡ true → same_name y x ≡ true
 name-turn x y e = true-name y x (sym (name-true x y e))
@@ -47,7 +29,7 @@ snoc-miss (b ∷ bs) x y e = elim (bool_cases (same_name y b)) [
 snoc-hit : (bs : List Chars) (x : Chars) → has_name x bs ≡ false → nameless_name (bs ++ x ∷ []) x ≡ nameless_bound (length bs)
 snoc-hit [] x e = name-hit x [] x (true-name x x refl)
 snoc-hit (b ∷ bs) x e =
-    let h = neither (same_name x b) (has_name x bs) e in
+    let h = or_parts (same_name x b) (has_name x bs) e in
     name-miss b (bs ++ x ∷ []) x h.0 ∙ ap deeper (snoc-hit bs x h.1)
 
 hidden-name : (bs : List Chars) (x y : Chars) → has_name x bs ≡ true → nameless_name (bs ++ x ∷ []) y ≡ nameless_name bs y
@@ -55,7 +37,7 @@ hidden-name [] x y e = absurd (true-false (sym e))
 hidden-name (b ∷ bs) x y e = elim (bool_cases (same_name y b)) [
   | inl h ↦ name-hit b (bs ++ x ∷ []) y h ∙ sym (name-hit b bs y h)
   | inr h ↦ name-miss b (bs ++ x ∷ []) y h
-      ∙ ap deeper (elim (either (same_name x b) (has_name x bs) e) [
+      ∙ ap deeper (elim (or_cases (same_name x b) (has_name x bs) e) [
         | inl k ↦ snoc-miss bs x y (false-name y x (λ q. name-false y b h (q ∙ name-true x b k)))
         | inr k ↦ hidden-name bs x y k
       ])
@@ -134,7 +116,7 @@ opened-nameless x by bs (abstraction y u b) s e = ap (nameless_abstraction u) (e
       ∙ sym (kept (y ∷ bs) (nameless [] by) b)
       ∙ ap (instance_at (length (y ∷ bs)) (nameless [] by)) (sym (hidden (y ∷ bs) x b (here (same_name x y) (has_name x bs) h)))
   | inr h ↦ ap (nameless (y ∷ bs)) (if-false (same_name x y) b (opened x by b) h)
-      ∙ opened-nameless x by (y ∷ bs) b s (false-either (same_name x y) (has_name x bs) h e)
+      ∙ opened-nameless x by (y ∷ bs) b s (or_from (same_name x y) (has_name x bs) h e)
 ]) where
   here : (a b : Bool) → a ≡ true → (a || b) ≡ true
   here true b e = refl
@@ -185,7 +167,7 @@ closed-body n x ty bs (constant c ts) l e = refl
 closed-body n x ty bs (application f a) l e = λ i. nameless_application
     (closed-body n x ty bs f (omega arith) e i) (closed-body n x ty bs a (omega arith) e i)
 closed-body n x ty bs (abstraction y u b) l e = ap (nameless_abstraction u)
-    (closed-body n x ty (y ∷ bs) b (omega arith) (false-either (same_name n y) (has_name n bs) (longer-differs n y (omega arith)) e))
+    (closed-body n x ty (y ∷ bs) b (omega arith) (or_from (same_name n y) (has_name n bs) (longer-differs n y (omega arith)) e))
 
 length-replicate : (n c : ℕ) → length (replicate n c) ≡ n
 length-replicate zero c = refl
@@ -234,7 +216,7 @@ no-index : (bs : List Chars) (t : TermTree) → has_index (length bs) (nameless 
 no-index bs (free_variable y u) = refl
 no-index bs (bound_name y) = under-index (length bs) (nameless_name bs y) (under-name bs y)
 no-index bs (constant c ts) = refl
-no-index bs (application f a) = false-either (has_index (length bs) (nameless bs f)) (has_index (length bs) (nameless bs a)) (no-index bs f) (no-index bs a)
+no-index bs (application f a) = or_from (has_index (length bs) (nameless bs f)) (has_index (length bs) (nameless bs a)) (no-index bs f) (no-index bs a)
 no-index bs (abstraction y u b) = no-index (y ∷ bs) b
 
 pub loose-nameless : (x : Chars) (bs : List Chars) (t : TermTree) → has_name x bs ≡ false
@@ -250,7 +232,7 @@ loose-nameless x bs (application f a) e = λ i. loose-nameless x bs f e i || loo
 loose-nameless x bs (abstraction y u b) e = elim (bool_cases (same_name x y)) [
   | inl h ↦ ap (λ v. not v && has_loose x b) h ∙ sym (no-index (y ∷ bs) b)
       ∙ ap (has_index (length (y ∷ bs))) (sym (hidden (y ∷ bs) x b (here (same_name x y) (has_name x bs) h)))
-  | inr h ↦ ap (λ v. not v && has_loose x b) h ∙ loose-nameless x (y ∷ bs) b (false-either (same_name x y) (has_name x bs) h e)
+  | inr h ↦ ap (λ v. not v && has_loose x b) h ∙ loose-nameless x (y ∷ bs) b (or_from (same_name x y) (has_name x bs) h e)
 ] where
   here : (a b : Bool) → a ≡ true → (a || b) ≡ true
   here true b e = refl
@@ -261,7 +243,7 @@ not-loose x bs (free_variable y u) e = refl
 not-loose x bs (bound_name y) e = snoc-miss bs x y (name-turn-false x y e)
 not-loose x bs (constant c ts) e = refl
 not-loose x bs (application f a) e =
-    let h = neither (has_loose x f) (has_loose x a) e in λ i. nameless_application (not-loose x bs f h.0 i) (not-loose x bs a h.1 i)
+    let h = or_parts (has_loose x f) (has_loose x a) e in λ i. nameless_application (not-loose x bs f h.0 i) (not-loose x bs a h.1 i)
 not-loose x bs (abstraction y u b) e = ap (nameless_abstraction u) (elim (bool_cases (same_name x y)) [
   | inl h ↦ hidden (y ∷ bs) x b (here (same_name x y) (has_name x bs) h)
   | inr h ↦ not-loose x (y ∷ bs) b (sym (ap (λ v. not v && has_loose x b) h) ∙ e)

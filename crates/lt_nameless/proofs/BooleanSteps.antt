@@ -2,6 +2,7 @@
 use Rattle.std.proofs.Common.{◌≡◌, ℕ, zero, suc, List, [], ◌∷◌, ◌++◌, Bool, true, false, ◌&&◌, not, if◌then◌else◌, map, slice_get, Option, Some, None, Result, Ok, Err, codes, refl, sym, ◌∙◌, ap, subst, arith}
 use Rattle.std.specs.List.{All, list_any}
 use Rattle.std.specs.Result.{result_unwrap_or}
+use Rattle.std.proofs.lemmas.Bool.{not-true}
 use Rattle.lt_definitions.specs.Types.{Chars, same_name, found, TypeTree, TypeMap, type_variable, type_constructor, no_types, type_and, bool, fun, row, same_type}
 use Rattle.lt_definitions.specs.Terms.{TermTree, bound_name, constant, application, abstraction, equation, implies, for_all, some_of, falsity, has_free, has_loose, term_instance}
 use Rattle.lt_definitions.specs.Typing.{Signature, built_in, Fault, earlier, type_fault, types_fault, at_types, applied_type, typed, HasType, is_of_type, has_type}
@@ -20,6 +21,7 @@ use Rattle.lt_nameless.proofs.Typings.{typed-has, has-typed, applied-ok}
 use Rattle.lt_nameless.proofs.NamelessTyping.{typed-nameless, typed-of}
 use Rattle.lt_nameless.proofs.StatementTypes.{IsSound, found-first, sound-items, sound-empty, more-binders, typed-sound, bool-sound, sound-fun, equation-typed, implies-typed, for_all-typed}
 use Rattle.lt_nameless.proofs.Substitutions.{opened-has, not-loose-has, replaced-has, closed-inner, closed-has, instance-has}
+use Rattle.lt_definitions.proofs.TypingLemmas.{both-none, none-both}
 
 -- lists of boolean terms
 
@@ -252,10 +254,6 @@ beta-typed sig (application (abstraction x u c) a) b ty h e =
     (subst (λ (v : TypeTree). HasType sig ((x, u) ∷ []) c v) res h.1.2))
 beta-typed sig t b ty h e = absurd (cc e)
 
-not-true : (b : Bool) → not b ≡ true → b ≡ false
-not-true false e = refl
-not-true true e = absurd (true-false (sym e))
-
 eta-typed : (sig : Signature) (t f : TermTree) (ty : TypeTree) → HasType sig [] t ty → eta_of t ≡ Some f → HasType sig [] f ty
 eta-typed sig (abstraction x u (application g (bound_name y))) f ty h e =
     let k = some-if (same_name x y && not (has_loose x g)) g f e in
@@ -267,14 +265,6 @@ eta-typed sig (abstraction x u (application g (bound_name y))) f ty h e =
     subst (λ (t : TermTree). HasType sig [] t ty) k.1
     (not-loose-has sig [] x u g ty (not-true (has_loose x g) l.1) (subst (λ (v : TypeTree). HasType sig ((x, u) ∷ []) g v) whole h.2.1))
 eta-typed sig t f ty h e = absurd (cc e)
-
-both-none : (a b : Option Fault) → earlier a b ≡ None → (a ≡ None) × (b ≡ None)
-both-none None b e = (refl, e)
-both-none (Some f) b e = absurd (cc e)
-
-none-both : (a b : Option Fault) → a ≡ None → b ≡ None → earlier a b ≡ None
-none-both None b d e = e
-none-both (Some f) b d e = absurd (cc d)
 
 -- the rules
 

@@ -13,14 +13,13 @@ use Rattle.lt_nameless.specs.NamelessRules.{nameless_has_type, nameless_has_free
 use Rattle.lt_definitions.specs.Rules.{Rule, by_assume, by_weaken, by_refl, by_sym, by_trans, by_cong, by_abs, by_beta, by_eta, by_eqmp, by_impI, by_mp, by_allI, by_allE, by_iff, by_inst, by_tinst, by_select, by_ccontr, by_thm}
 use Rattle.lt_definitions.proofs.SameNames.{bool_cases, true-false}
 use Rattle.lt_nameless.proofs.BindingLemmas.{if-true, if-false}
-
-number-true : (i d : ℕ) → nat_eq i d ≡ true → i ≡ d
-number-true i d e = grind (arith, nat_tests)
+use Rattle.lt_definitions.proofs.TypingLemmas.{both-none, typed-some}
+use Rattle.lt_nameless.proofs.SameForms.{number-true}
 
 number-false : (i d : ℕ) → nat_eq i d ≡ false → i < suc d → i < d
 number-false i d e h = grind (arith, nat_tests)
 
-further : (d e : ℕ) (n : Nameless) → d ≤ e → IsWhole d n → IsWhole e n
+pub further : (d e : ℕ) (n : Nameless) → d ≤ e → IsWhole d n → IsWhole e n
 further d e (nameless_free x ty) h w = tt
 further d e (nameless_bound i) h w = omega arith
 further d e (nameless_loose x) h w = w
@@ -32,7 +31,7 @@ whole-if : (d : ℕ) (b : Bool) (m n : Nameless) → (b ≡ true → IsWhole d m
 whole-if d true m n h k = h refl
 whole-if d false m n h k = k refl
 
-instance-whole : (d : ℕ) (by n : Nameless) → IsWhole 0 by → IsWhole (suc d) n → IsWhole d (instance_at d by n)
+pub instance-whole : (d : ℕ) (by n : Nameless) → IsWhole 0 by → IsWhole (suc d) n → IsWhole d (instance_at d by n)
 instance-whole d by (nameless_free x ty) h w = tt
 instance-whole d by (nameless_bound i) h w =
     whole-if d (nat_eq i d) by (nameless_bound i) (λ e. further 0 d by (omega arith) h) (λ e. number-false i d e w)
@@ -41,7 +40,7 @@ instance-whole d by (nameless_constant c ts) h w = tt
 instance-whole d by (nameless_application f a) h w = (instance-whole d by f h w.0, instance-whole d by a h w.1)
 instance-whole d by (nameless_abstraction ty b) h w = instance-whole (suc d) by b h w
 
-abstracted-whole : (d : ℕ) (x : Chars) (ty : TypeTree) (n : Nameless) → IsWhole d n → IsWhole (suc d) (abstracted d x ty n)
+pub abstracted-whole : (d : ℕ) (x : Chars) (ty : TypeTree) (n : Nameless) → IsWhole d n → IsWhole (suc d) (abstracted d x ty n)
 abstracted-whole d x ty (nameless_free y u) w =
     whole-if (suc d) (same_name x y && same_type ty u) (nameless_bound d) (nameless_free y u) (λ e. omega arith) (λ e. tt)
 abstracted-whole d x ty (nameless_bound i) w = omega arith
@@ -50,7 +49,7 @@ abstracted-whole d x ty (nameless_constant c ts) w = tt
 abstracted-whole d x ty (nameless_application f a) w = (abstracted-whole d x ty f w.0, abstracted-whole d x ty a w.1)
 abstracted-whole d x ty (nameless_abstraction u b) w = abstracted-whole (suc d) x ty b w
 
-replaced-whole : (d : ℕ) (x : Chars) (ty : TypeTree) (by n : Nameless) → IsWhole 0 by → IsWhole d n → IsWhole d (nameless_replaced x ty by n)
+pub replaced-whole : (d : ℕ) (x : Chars) (ty : TypeTree) (by n : Nameless) → IsWhole 0 by → IsWhole d n → IsWhole d (nameless_replaced x ty by n)
 replaced-whole d x ty by (nameless_free y u) h w =
     whole-if d (same_name x y && same_type ty u) by (nameless_free y u) (λ e. further 0 d by (omega arith) h) (λ e. tt)
 replaced-whole d x ty by (nameless_bound i) h w = w
@@ -59,7 +58,7 @@ replaced-whole d x ty by (nameless_constant c ts) h w = tt
 replaced-whole d x ty by (nameless_application f a) h w = (replaced-whole d x ty by f h w.0, replaced-whole d x ty by a h w.1)
 replaced-whole d x ty by (nameless_abstraction u b) h w = replaced-whole (suc d) x ty by b h w
 
-types-whole : (d : ℕ) (m : TypeMap) (n : Nameless) → IsWhole d n → IsWhole d (nameless_instance m n)
+pub types-whole : (d : ℕ) (m : TypeMap) (n : Nameless) → IsWhole d n → IsWhole d (nameless_instance m n)
 types-whole d m (nameless_free y u) w = tt
 types-whole d m (nameless_bound i) w = w
 types-whole d m (nameless_loose y) w = w
@@ -68,7 +67,7 @@ types-whole d m (nameless_application f a) w = (types-whole d m f w.0, types-who
 types-whole d m (nameless_abstraction u b) w = types-whole (suc d) m b w
 
 -- a function of an eta redex doesn't have the index
-lower-whole : (d : ℕ) (n : Nameless) → has_index d n ≡ false → IsWhole (suc d) n → IsWhole d n
+pub lower-whole : (d : ℕ) (n : Nameless) → has_index d n ≡ false → IsWhole (suc d) n → IsWhole d n
 lower-whole d (nameless_free x ty) e w = tt
 lower-whole d (nameless_bound i) e w = number-false i d e w
 lower-whole d (nameless_loose x) e w = w
@@ -108,16 +107,12 @@ typed-whole sig tys (nameless_abstraction u b) ty e =
     let h = unless-of (type_fault sig u) (with_ok (nameless_typed sig (u ∷ tys) b) (λ v. Ok (fun u v))) ty e in
     let k = ok-of (nameless_typed sig (u ∷ tys) b) (λ v. Ok (fun u v)) ty h in typed-whole sig (u ∷ tys) b k.0 k.1
 
-has_some : (r : Result TypeTree Fault) → fault_of r ≡ None → (ty : TypeTree) × (r ≡ Ok ty)
-has_some (Ok ty) e = (ty, refl)
-has_some (Err f) e = absurd (cc e)
-
-term-whole : (sig : Signature) (n : Nameless) → nameless_fault sig n ≡ None → IsWhole 0 n
-term-whole sig n e = let h = has_some (nameless_typed sig [] n) e in typed-whole sig [] n h.0 h.1
+pub term-whole : (sig : Signature) (n : Nameless) → nameless_fault sig n ≡ None → IsWhole 0 n
+term-whole sig n e = let h = typed-some (nameless_typed sig [] n) e in typed-whole sig [] n h.0 h.1
 
 -- lists
 
-append-whole : (hs ks : List Nameless) → AreWhole hs → AreWhole ks → AreWhole (hs ++ ks)
+pub append-whole : (hs ks : List Nameless) → AreWhole hs → AreWhole ks → AreWhole (hs ++ ks)
 append-whole [] ks h k = k
 append-whole (n ∷ hs) ks h k = (h.0, append-whole hs ks h.1 k)
 
@@ -125,19 +120,19 @@ either-whole : (b : Bool) (k : Nameless) (hs : List Nameless) → AreWhole hs �
 either-whole true k hs h w = h
 either-whole false k hs h w = append-whole hs (k ∷ []) h (w, tt)
 
-union-whole : (hs ks : List Nameless) → AreWhole hs → AreWhole ks → AreWhole (nameless_union hs ks)
+pub union-whole : (hs ks : List Nameless) → AreWhole hs → AreWhole ks → AreWhole (nameless_union hs ks)
 union-whole hs [] h k = h
 union-whole hs (n ∷ ks) h k =
     union-whole (if list_any (same_nameless n) hs then hs else hs ++ n ∷ []) ks (either-whole (list_any (same_nameless n) hs) n hs h k.0) k.1
 
-without-whole : (p : Nameless) (hs : List Nameless) → AreWhole hs → AreWhole (nameless_without p hs)
+pub without-whole : (p : Nameless) (hs : List Nameless) → AreWhole hs → AreWhole (nameless_without p hs)
 without-whole p [] h = tt
 without-whole p (n ∷ hs) h = pick (not (same_nameless p n)) (without-whole p hs h.1) where
   pick : (b : Bool) → AreWhole (nameless_without p hs) → AreWhole (if b then n ∷ nameless_without p hs else nameless_without p hs)
   pick true w = (h.0, w)
   pick false w = w
 
-map-whole : (f : Nameless → Nameless) → ((n : Nameless) → IsWhole 0 n → IsWhole 0 (f n)) → (hs : List Nameless) → AreWhole hs → AreWhole (map f hs)
+pub map-whole : (f : Nameless → Nameless) → ((n : Nameless) → IsWhole 0 n → IsWhole 0 (f n)) → (hs : List Nameless) → AreWhole hs → AreWhole (map f hs)
 map-whole f k [] h = tt
 map-whole f k (n ∷ hs) h = (k n h.0, map-whole f k hs h.1)
 
@@ -177,33 +172,33 @@ some-if : {A : Type 0} (b : Bool) (x y : A) → (if b then Some x else None) ≡
 some-if true x y e = (refl, let same : x ≡ y = cc e in same)
 some-if false x y e = absurd (cc e)
 
-equation-whole : (n : Nameless) (e : TypeTree × Nameless × Nameless) → IsWhole 0 n → nameless_as_equation n ≡ Some e → IsWhole 0 e.1 × IsWhole 0 e.2
+pub equation-whole : (n : Nameless) (e : TypeTree × Nameless × Nameless) → IsWhole 0 n → nameless_as_equation n ≡ Some e → IsWhole 0 e.1 × IsWhole 0 e.2
 equation-whole (nameless_application (nameless_application (nameless_constant c (ty ∷ [])) s) t) e w q =
     let k = (some-if (same_name c (codes "eq")) (ty, s, t) e q).1 in
     (subst (λ (n : Nameless). IsWhole 0 n) (ap (λ p. p.1) k) w.0.1, subst (λ (n : Nameless). IsWhole 0 n) (ap (λ p. p.2) k) w.1)
 equation-whole n e w q = absurd (cc q)
 
-implication-whole : (n : Nameless) (e : Nameless × Nameless) → IsWhole 0 n → nameless_as_implication n ≡ Some e → IsWhole 0 e.0 × IsWhole 0 e.1
+pub implication-whole : (n : Nameless) (e : Nameless × Nameless) → IsWhole 0 n → nameless_as_implication n ≡ Some e → IsWhole 0 e.0 × IsWhole 0 e.1
 implication-whole (nameless_application (nameless_application (nameless_constant c []) p) q) e w h =
     let k = (some-if (same_name c (codes "imp")) (p, q) e h).1 in
     (subst (λ (n : Nameless). IsWhole 0 n) (ap (λ p. p.0) k) w.0.1, subst (λ (n : Nameless). IsWhole 0 n) (ap (λ p. p.1) k) w.1)
 implication-whole n e w q = absurd (cc q)
 
-forall-whole : (n : Nameless) (e : TypeTree × Nameless) → IsWhole 0 n → nameless_as_forall n ≡ Some e → IsWhole 0 e.1
+pub forall-whole : (n : Nameless) (e : TypeTree × Nameless) → IsWhole 0 n → nameless_as_forall n ≡ Some e → IsWhole 0 e.1
 forall-whole (nameless_application (nameless_constant c (ty ∷ [])) p) e w q =
     let k = (some-if (same_name c (codes "all")) (ty, p) e q).1 in subst (λ (n : Nameless). IsWhole 0 n) (ap (λ p. p.1) k) w.1
 forall-whole n e w q = absurd (cc q)
 
-at-whole : (p t : Nameless) → IsWhole 0 p → IsWhole 0 t → IsWhole 0 (nameless_at p t)
+pub at-whole : (p t : Nameless) → IsWhole 0 p → IsWhole 0 t → IsWhole 0 (nameless_at p t)
 at-whole (nameless_abstraction u b) t w h = instance-whole 0 t b h w
 at-whole p t w h = (w, h)
 
-beta-whole : (n b : Nameless) → IsWhole 0 n → nameless_beta n ≡ Some b → IsWhole 0 b
+pub beta-whole : (n b : Nameless) → IsWhole 0 n → nameless_beta n ≡ Some b → IsWhole 0 b
 beta-whole (nameless_application (nameless_abstraction u c) a) b w e =
     let same : instance_at 0 a c ≡ b = cc e in subst (λ (n : Nameless). IsWhole 0 n) same (instance-whole 0 a c w.1 w.0)
 beta-whole n b w e = absurd (cc e)
 
-eta-whole : (n f : Nameless) → IsWhole 0 n → nameless_eta n ≡ Some f → IsWhole 0 f
+pub eta-whole : (n f : Nameless) → IsWhole 0 n → nameless_eta n ≡ Some f → IsWhole 0 f
 eta-whole (nameless_abstraction u (nameless_application g (nameless_bound zero))) f w e =
     let k = some-if (not (has_index 0 g)) g f e in
     subst (λ (n : Nameless). IsWhole 0 n) k.1 (lower-whole 0 g (true-not (has_index 0 g) k.0) w.0) where
@@ -211,10 +206,6 @@ eta-whole (nameless_abstraction u (nameless_application g (nameless_bound zero))
       true-not false e = refl
       true-not true e = absurd (true-false (sym e))
 eta-whole n f w e = absurd (cc e)
-
-pub both-none : (a b : Option Fault) → earlier a b ≡ None → (a ≡ None) × (b ≡ None)
-both-none None b e = (refl, e)
-both-none (Some f) b e = absurd (cc e)
 
 good-step : (sig : Signature) (named : List (Chars × Nameless)) (done : List NamelessSequent) (line : Rule Nameless)
     → AreWholeStatements named → AreWholeSequents done → rule_fault sig (nameless_fault sig) line ≡ None → Good (nameless_step sig named done line)

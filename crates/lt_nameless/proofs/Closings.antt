@@ -1,6 +1,7 @@
 -- Closing: there is one closing, up to alpha equality.
 use Rattle.std.proofs.Common.{◌≡◌, inl, inr, ℕ, suc, ◌<◌, [], ◌∷◌, Bool, true, false, ◌&&◌, ◌||◌, length, nat_eq, refl, sym, ◌∙◌, ap, arith}
 use Rattle.std.proofs.lemmas.Bool.Decides.{nat_tests}
+use Rattle.std.proofs.lemmas.Bool.{or_parts, or_from}
 use Rattle.lt_definitions.specs.Types.{Chars, same_name, TypeTree, same_type}
 use Rattle.lt_definitions.specs.Terms.{TermTree, free_variable, bound_name, constant, application, abstraction, has_free}
 use Rattle.lt_definitions.specs.Alpha.{AreAlpha}
@@ -10,14 +11,7 @@ use Rattle.lt_nameless.specs.NamelessRules.{instance_at, abstracted, nameless_ha
 use Rattle.lt_definitions.proofs.SameNames.{true-false, bool_cases, both-true, true-both, name-true, true-name, false-name, type-true, type-refl}
 use Rattle.lt_nameless.proofs.Alphas.{alpha-nameless, nameless-alpha}
 use Rattle.lt_nameless.proofs.BindingLemmas.{if-true, if-false, opened-nameless, closed-nameless, free-nameless, new_is_longer}
-
-neither : (a b : Bool) → (a || b) ≡ false → (a ≡ false) × (b ≡ false)
-neither false b e = (refl, e)
-neither true b e = absurd (true-false e)
-
-false-either : (a b : Bool) → a ≡ false → b ≡ false → (a || b) ≡ false
-false-either false b d e = e
-false-either true b d e = absurd (true-false d)
+use Rattle.lt_nameless.proofs.SameForms.{number-true}
 
 gone-replaced : (x : Chars) (ty : TypeTree) (n : Chars) (t : TermTree) → has_free x ty (replaced x ty (bound_name n) t) ≡ false
 gone-replaced x ty n (free_variable y u) = elim (bool_cases (same_name x y && same_type ty u)) [
@@ -26,7 +20,7 @@ gone-replaced x ty n (free_variable y u) = elim (bool_cases (same_name x y && sa
 ]
 gone-replaced x ty n (bound_name y) = refl
 gone-replaced x ty n (constant c ts) = refl
-gone-replaced x ty n (application f a) = false-either (has_free x ty (replaced x ty (bound_name n) f)) (has_free x ty (replaced x ty (bound_name n) a))
+gone-replaced x ty n (application f a) = or_from (has_free x ty (replaced x ty (bound_name n) f)) (has_free x ty (replaced x ty (bound_name n) a))
     (gone-replaced x ty n f) (gone-replaced x ty n a)
 gone-replaced x ty n (abstraction y u b) = gone-replaced x ty n b
 
@@ -57,9 +51,6 @@ closing_is_one x ty t = record {
       (ap (nameless []) (opened-back (new_binder t) x ty t (new_is_longer t)));
 }
 
-number-true : (i d : ℕ) → nat_eq i d ≡ true → i ≡ d
-number-true i d e = grind (arith, nat_tests)
-
 -- abstracting undoes an instance by a free variable that isn't there
 abstracted-instance : (d : ℕ) (x : Chars) (ty : TypeTree) (n : Nameless) → nameless_has_free x ty n ≡ false
     → abstracted d x ty (instance_at d (nameless_free x ty) n) ≡ n
@@ -73,7 +64,7 @@ abstracted-instance d x ty (nameless_bound i) e = elim (bool_cases (nat_eq i d))
 abstracted-instance d x ty (nameless_loose y) e = refl
 abstracted-instance d x ty (nameless_constant c ts) e = refl
 abstracted-instance d x ty (nameless_application f a) e =
-    let h = neither (nameless_has_free x ty f) (nameless_has_free x ty a) e in
+    let h = or_parts (nameless_has_free x ty f) (nameless_has_free x ty a) e in
     λ i. nameless_application (abstracted-instance d x ty f h.0 i) (abstracted-instance d x ty a h.1 i)
 abstracted-instance d x ty (nameless_abstraction u b) e = ap (nameless_abstraction u) (abstracted-instance (suc d) x ty b e)
 

@@ -1,5 +1,6 @@
 -- The lemmas behind the laws, those that others cite first.
 pub mod Alphas
+pub mod SameForms
 pub mod BindingLemmas
 pub mod Typings
 pub mod NamelessTyping
@@ -20,4 +21,6 @@ pub mod LaterItems
 pub mod Refusals
 pub mod ClosedForms
 pub mod ClosedSteps
+pub mod NamelessClosings
+pub mod NamelessRuleLemmas
 pub mod PrintingLemmas

@@ -11,14 +11,7 @@ use Rattle.lt_definitions.specs.Derivations.{rule_fault, term_fault, Derives, Is
 use Rattle.lt_nameless.proofs.Typings.{has-typed}
 use Rattle.lt_nameless.proofs.NamelessTyping.{typed-of}
 use Rattle.std.proofs.Common.{map}
-
-both-none : (a b : Option Fault) → earlier a b ≡ None → (a ≡ None) × (b ≡ None)
-both-none None b e = (refl, e)
-both-none (Some f) b e = absurd (cc e)
-
-none-both : (a b : Option Fault) → a ≡ None → b ≡ None → earlier a b ≡ None
-none-both None b d e = e
-none-both (Some f) b d e = absurd (cc d)
+use Rattle.lt_definitions.proofs.TypingLemmas.{both-none, none-both}
 
 constructor-more : (c : Chars) (n : ℕ) (o p : Option ℕ) → ((k : ℕ) → o ≡ Some k → p ≡ Some k) → constructor_fault c n o ≡ None → constructor_fault c n p ≡ None
 constructor-more c n None p h e = absurd (cc e)

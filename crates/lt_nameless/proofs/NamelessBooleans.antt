@@ -14,9 +14,10 @@ use Rattle.lt_nameless.proofs.Typings.{typed-has, has-typed}
 use Rattle.lt_nameless.proofs.NamelessTyping.{typed-nameless}
 use Rattle.lt_nameless.proofs.NamelessSteps.{step_is_nameless, faults_are_nameless}
 use Rattle.lt_nameless.proofs.ClosedForms.{nameless_of_named}
-use Rattle.lt_nameless.proofs.ClosedSteps.{typed-whole, both-none}
+use Rattle.lt_nameless.proofs.ClosedSteps.{typed-whole}
 use Rattle.lt_nameless.proofs.BooleanSteps.{rules_keep_booleans}
 use Rattle.lt_nameless.proofs.BindingLemmas.{if-true, if-false}
+use Rattle.lt_definitions.proofs.TypingLemmas.{both-none, typed-some}
 
 -- the named reading of a typed nameless term
 
@@ -26,12 +27,8 @@ back sig n ty e = nameless_of_named n (typed-whole sig [] n ty e)
 back-typed : (sig : Signature) (n : Nameless) (ty : TypeTree) → nameless_typed sig [] n ≡ Ok ty → HasType sig [] (named 0 n) ty
 back-typed sig n ty e = typed-has sig [] (named 0 n) ty (typed-nameless sig [] (named 0 n) ∙ ap (nameless_typed sig []) (back sig n ty e) ∙ e)
 
-has_some : (r : Result TypeTree Fault) → fault_of r ≡ None → (ty : TypeTree) × (r ≡ Ok ty)
-has_some (Ok ty) e = (ty, refl)
-has_some (Err f) e = absurd (cc e)
-
 back-sound : (sig : Signature) (n : Nameless) → nameless_fault sig n ≡ None → nameless [] (named 0 n) ≡ n
-back-sound sig n e = let h = has_some (nameless_typed sig [] n) e in back sig n h.0 h.1
+back-sound sig n e = let h = typed-some (nameless_typed sig [] n) e in back sig n h.0 h.1
 
 -- of lines
 

@@ -14,6 +14,7 @@ use Rattle.lt_definitions.specs.Rules.{Rule}
 use Rattle.lt_nameless.proofs.Outcomes.{outcomes_are_nameless}
 use Rattle.lt_nameless.proofs.BindingLemmas.{IsScoped, closed-nameless, replaced-nameless, instance-nameless}
 use Rattle.lt_nameless.proofs.NamelessTyping.{all_nameless, in_option, sides, both_sides, typed_side, scoped-of, typed-of, has_type-nameless, type_of-nameless, alpha-same, union-nameless, without-nameless, free-in, replaced-in, instance-in, line-nameless, found-nameless, equation-nameless, implication-nameless, forall-nameless, at-nameless, beta-nameless, eta-nameless, selection-nameless, typed-nameless}
+use Rattle.lt_definitions.proofs.TypingLemmas.{both-none}
 
 give : (hs : List TermTree) (gs : List Nameless) (p : TermTree) (n : Nameless) → all_nameless hs ≡ gs → nameless [] p ≡ n
     → nameless_outcome (gives hs p) ≡ nameless_gives gs n
@@ -39,10 +40,6 @@ through_lines : (done : List Sequent) (i j : ℕ) (f : Sequent → Sequent → O
     → nameless_outcome (with_lines done i j f) ≡ with_lines (map nameless_sequent done) i j k
 through_lines done i j f k h = through_line done i (λ s. with_line done j (λ u. f s u)) (λ s. with_line (map nameless_sequent done) j (λ u. k s u))
     (λ s. through_line done j (f s) (k (nameless_sequent s)) (h s))
-
-nothing_there : {F : Type 0} (a b : Option F) → earlier a b ≡ None → (a ≡ None) × (b ≡ None)
-nothing_there None b e = (refl, e)
-nothing_there (Some f) b e = absurd (cc e)
 
 pub step_is_nameless : (sig : Signature) (named : List (Chars × TermTree)) (done : List Sequent) (line : Rule TermTree) → rule_fault sig (term_fault sig) line ≡ None
     → nameless_outcome (step sig named done line) ≡ nameless_step sig (nameless_statements named) (map nameless_sequent done) (nameless_rule line)
@@ -96,7 +93,7 @@ step_is_nameless sig named done (by_iff i j) t = through_lines done i j _ _ (λ 
     through_holds _ _ _ _ _ (λ k. alpha-same e.0 d.1 k && alpha-same e.1 d.0 k)
     (give _ _ (equation bool e.0 e.1) _ (union-nameless s.hyps u.hyps) refl))))
 step_is_nameless sig named done (by_inst x ty p i) t =
-    let h = nothing_there (type_fault sig ty) (term_fault sig p) t in
+    let h = both-none (type_fault sig ty) (term_fault sig p) t in
     let scoped : IsScoped p = scoped-of sig p h.1 in
     through_line done i _ _ (λ s.
     through_holds _ _ _ _ _ (has_type-nameless sig p ty) (give _ _ (replaced x ty p s.concl) _

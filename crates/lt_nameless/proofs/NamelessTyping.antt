@@ -17,6 +17,8 @@ use Rattle.lt_definitions.proofs.SameNames.{true-false, bool_cases, both-true, t
 use Rattle.lt_nameless.proofs.Alphas.{name-hit, name-miss, IsPlace, place, alpha-nameless, nameless-alpha, alpha-is, is-alpha as alpha-tested}
 use Rattle.lt_nameless.proofs.Typings.{typed-has}
 use Rattle.lt_nameless.proofs.BindingLemmas.{if-true, if-false, IsScoped, opened-nameless, replaced-nameless, instance-nameless, free-nameless, loose-nameless, not-loose}
+use Rattle.lt_definitions.proofs.TypingLemmas.{typed-some}
+use Rattle.lt_nameless.proofs.SameForms.{number-true, same-is, same-refl}
 
 abbrev names : List (Chars × TypeTree) → List Chars
 names env = map (λ p. p.0) env
@@ -68,12 +70,8 @@ has-scoped sig env cs (abstraction x u b) ty h = ap (nameless_abstraction u) (ha
 pub typed-scoped : (sig : Signature) (t : TermTree) (ty : TypeTree) → HasType sig [] t ty → IsScoped t
 typed-scoped sig t ty h cs = has-scoped sig [] cs t ty h
 
-has_some : (r : Result TypeTree Fault) → fault_of r ≡ None → (ty : TypeTree) × (r ≡ Ok ty)
-has_some (Ok ty) e = (ty, refl)
-has_some (Err f) e = absurd (cc e)
-
 pub typed-of : (sig : Signature) (t : TermTree) → term_fault sig t ≡ None → (ty : TypeTree) × HasType sig [] t ty
-typed-of sig t e = let h = has_some (typed sig [] t) e in (h.0, typed-has sig [] t h.0 h.1)
+typed-of sig t e = let h = typed-some (typed sig [] t) e in (h.0, typed-has sig [] t h.0 h.1)
 
 pub scoped-of : (sig : Signature) (t : TermTree) → term_fault sig t ≡ None → IsScoped t
 scoped-of sig t e = let h = typed-of sig t e in typed-scoped sig t h.0 h.1
@@ -85,33 +83,6 @@ pub type_of-nameless : (sig : Signature) (t : TermTree) → type_of sig t ≡ na
 type_of-nameless sig t = ap (λ r. result_unwrap_or r bool) (typed-nameless sig [] t)
 
 -- alpha equality
-
-number_same : (i j : ℕ) → nat_eq i j ≡ true → i ≡ j
-number_same i j e = grind (arith, nat_tests)
-
-same_number : (i j : ℕ) → i ≡ j → nat_eq i j ≡ true
-same_number i j e = grind (arith, nat_tests)
-
-same-is : (a b : Nameless) → same_nameless a b ≡ true → a ≡ b
-same-is (nameless_free x t) (nameless_free y u) e =
-    let h = both-true (same_name x y) (same_type t u) e in λ i. nameless_free (name-true x y h.0 i) (type-true t u h.1 i)
-same-is (nameless_bound i) (nameless_bound j) e = ap nameless_bound (number_same i j e)
-same-is (nameless_loose x) (nameless_loose y) e = ap nameless_loose (name-true x y e)
-same-is (nameless_constant c ts) (nameless_constant d us) e =
-    let h = both-true (same_name c d) (same_types (row ts) (row us)) e in λ i. nameless_constant (name-true c d h.0 i) (row-true ts us h.1 i)
-same-is (nameless_application f a) (nameless_application g b) e =
-    let h = both-true (same_nameless f g) (same_nameless a b) e in λ i. nameless_application (same-is f g h.0 i) (same-is a b h.1 i)
-same-is (nameless_abstraction t b) (nameless_abstraction u c) e =
-    let h = both-true (same_type t u) (same_nameless b c) e in λ i. nameless_abstraction (type-true t u h.0 i) (same-is b c h.1 i)
-same-is a b e = absurd (true-false (sym e))
-
-same-refl : (a : Nameless) → same_nameless a a ≡ true
-same-refl (nameless_free x t) = true-both (same_name x x) (same_type t t) (true-name x x refl) (true-type t t refl)
-same-refl (nameless_bound i) = same_number i i refl
-same-refl (nameless_loose x) = true-name x x refl
-same-refl (nameless_constant c ts) = true-both (same_name c c) (same_types (row ts) (row ts)) (true-name c c refl) (true-row ts ts refl)
-same-refl (nameless_application f a) = true-both (same_nameless f f) (same_nameless a a) (same-refl f) (same-refl a)
-same-refl (nameless_abstraction t b) = true-both (same_type t t) (same_nameless b b) (true-type t t refl) (same-refl b)
 
 both_ways : (a b : Bool) → (a ≡ true → b ≡ true) → (b ≡ true → a ≡ true) → a ≡ b
 both_ways true b f g = sym (f refl)

@@ -1,6 +1,7 @@
 -- No refusal means a valid extension.
 use Rattle.std.proofs.Common.{◌≡◌, ◌≢◌, ◌↔◌, ◌⊎◌, inl, inr, ℕ, List, [], ◌∷◌, ◌++◌, Bool, true, false, ◌&&◌, ◌||◌, not, if◌then◌else◌, Option, Some, None, is_some, is_none, Result, Ok, Err, codes, refl, sym, ◌∙◌, ap, subst}
 use Rattle.std.specs.List.{find}
+use Rattle.std.proofs.lemmas.Bool.{not-false}
 use Rattle.lt_definitions.specs.Types.{Chars, same_name, has_name, found, TypeTree, type_constructor, no_types, type_and, bool, fun, same_type, type_variables}
 use Rattle.lt_definitions.specs.Terms.{TermTree, application, is_closed, term_variables}
 use Rattle.lt_definitions.specs.Typing.{Fault, mismatch, type_fault, typed}
@@ -30,10 +31,6 @@ where-none true r e = absurd (cc e)
 none-where : (b : Bool) (r : Refusal) → b ≡ false → refused_where b r ≡ None
 none-where false r e = refl
 none-where true r e = absurd (true-false e)
-
-not-false : (b : Bool) → not b ≡ false → b ≡ true
-not-false true e = refl
-not-false false e = absurd (true-false e)
 
 false-not : (b : Bool) → b ≡ true → not b ≡ false
 false-not true e = refl

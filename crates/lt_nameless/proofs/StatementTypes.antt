@@ -15,14 +15,7 @@ use Rattle.lt_nameless.proofs.BindingLemmas.{if-true, if-false}
 use Rattle.lt_nameless.proofs.MoreDeclarations.{type-more, has-more}
 use Rattle.lt_nameless.proofs.Refusals.{refusal-extension}
 use Rattle.lt_nameless.proofs.LaterItems.{found-append, keeps-types, keeps-consts}
-
-both-none : (a b : Option Fault) → earlier a b ≡ None → (a ≡ None) × (b ≡ None)
-both-none None b e = (refl, e)
-both-none (Some f) b e = absurd (cc e)
-
-none-both : (a b : Option Fault) → a ≡ None → b ≡ None → earlier a b ≡ None
-none-both None b d e = e
-none-both (Some f) b d e = absurd (cc d)
+use Rattle.lt_definitions.proofs.TypingLemmas.{both-none, none-both}
 
 found-split : {A : Type 0} (x : Chars) (ps qs : List (Chars × A)) (v : A) → found x (ps ++ qs) ≡ Some v → (found x ps ≡ Some v) ⊎ (found x qs ≡ Some v)
 found-split x [] qs v e = inr e

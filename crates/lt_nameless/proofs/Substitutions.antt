@@ -2,6 +2,7 @@
 use Rattle.std.proofs.Common.{◌≡◌, ◌⊎◌, inl, inr, ◌<◌, List, [], ◌∷◌, ◌++◌, Bool, true, false, ◌&&◌, ◌||◌, not, if◌then◌else◌, Some, None, unwrap_or, length, map, refl, sym, ◌∙◌, ap, subst, arith}
 use Rattle.std.specs.List.{zip}
 use Rattle.std.proofs.lemmas.List.{length-map}
+use Rattle.std.proofs.lemmas.Bool.{or_parts, or_left, or_right, or_cases}
 use Rattle.lt_definitions.specs.Types.{Chars, same_name, has_name, names_joined, found, TypeTree, TypeTrees, TypeMap, type_variable, type_constructor, no_types, type_and, fun, row, same_type, type_names, types_names, type_variables, type_instance, types_instance}
 use Rattle.lt_definitions.specs.Terms.{TermTree, free_variable, bound_name, constant, application, abstraction, has_loose, term_instance}
 use Rattle.lt_definitions.specs.Typing.{Signature, type_fault, types_fault, HasType}
@@ -84,10 +85,6 @@ opened-has sig env x u by (abstraction y w b) ty e k h = (
   h.3,
 )
 
-neither : (a b : Bool) → (a || b) ≡ false → (a ≡ false) × (b ≡ false)
-neither false b e = (refl, e)
-neither true b e = absurd (true-false e)
-
 -- a binder whose name isn't loose can go
 pub not-loose-has : (sig : Signature) (env : Env) (x : Chars) (u : TypeTree) (t : TermTree) (ty : TypeTree) → has_loose x t ≡ false
     → HasType sig (env ++ (x, u) ∷ []) t ty → HasType sig env t ty
@@ -95,7 +92,7 @@ not-loose-has sig env x u (free_variable y w) ty e h = h
 not-loose-has sig env x u (bound_name y) ty e h = sym (found-other env x y u (turned x y e)) ∙ h
 not-loose-has sig env x u (constant c ts) ty e h = h
 not-loose-has sig env x u (application f a) ty e h =
-    let k = neither (has_loose x f) (has_loose x a) e in
+    let k = or_parts (has_loose x f) (has_loose x a) e in
     (h.0, not-loose-has sig env x u f (fun h.0 ty) k.0 h.1, not-loose-has sig env x u a h.0 k.1 h.2)
 not-loose-has sig env x u (abstraction y w b) ty e h = (
   h.0,
@@ -154,28 +151,16 @@ closed-has sig x u t ty e h = (ty, e, closed-inner sig x u t ty h, refl)
 
 -- type instances
 
-either : (a b : Bool) → (a || b) ≡ true → (a ≡ true) ⊎ (b ≡ true)
-either true b e = inl refl
-either false b e = inr e
-
-or-left : (a b : Bool) → a ≡ true → (a || b) ≡ true
-or-left true b e = refl
-or-left false b e = absurd (true-false (sym e))
-
-or-right : (a b : Bool) → b ≡ true → (a || b) ≡ true
-or-right true b e = refl
-or-right false b e = e
-
 pub append-left : (a : Chars) (xs ys : List Chars) → has_name a xs ≡ true → has_name a (xs ++ ys) ≡ true
 append-left a [] ys e = absurd (true-false (sym e))
-append-left a (x ∷ xs) ys e = elim (either (same_name a x) (has_name a xs) e) [
-  | inl h ↦ or-left (same_name a x) (has_name a (xs ++ ys)) h
-  | inr h ↦ or-right (same_name a x) (has_name a (xs ++ ys)) (append-left a xs ys h)
+append-left a (x ∷ xs) ys e = elim (or_cases (same_name a x) (has_name a xs) e) [
+  | inl h ↦ or_left (same_name a x) (has_name a (xs ++ ys)) h
+  | inr h ↦ or_right (same_name a x) (has_name a (xs ++ ys)) (append-left a xs ys h)
 ]
 
 pub append-right : (a : Chars) (xs ys : List Chars) → has_name a ys ≡ true → has_name a (xs ++ ys) ≡ true
 append-right a [] ys e = e
-append-right a (x ∷ xs) ys e = or-right (same_name a x) (has_name a (xs ++ ys)) (append-right a xs ys e)
+append-right a (x ∷ xs) ys e = or_right (same_name a x) (has_name a (xs ++ ys)) (append-right a xs ys e)
 
 abbrev joined_one : List Chars → Chars → List Chars
 joined_one xs y = if has_name y xs then xs else xs ++ y ∷ []
@@ -190,7 +175,7 @@ one-has : (a y : Chars) (xs : List Chars) → same_name a y ≡ true → has_nam
 one-has a y xs e = elim (bool_cases (has_name y xs)) [
   | inl h ↦ ap (has_name a) (if-true (has_name y xs) xs (xs ++ y ∷ []) h) ∙ ap (λ (n : Chars). has_name n xs) (name-true a y e) ∙ h
   | inr h ↦ ap (has_name a) (if-false (has_name y xs) xs (xs ++ y ∷ []) h)
-      ∙ append-right a xs (y ∷ []) (or-left (same_name a y) false e)
+      ∙ append-right a xs (y ∷ []) (or_left (same_name a y) false e)
 ]
 
 joined-keeps : (a : Chars) (xs ys : List Chars) → has_name a xs ≡ true → has_name a (names_joined xs ys) ≡ true
@@ -199,17 +184,18 @@ joined-keeps a xs (y ∷ ys) e = joined-keeps a (joined_one xs y) ys (one-keeps 
 
 pub joined-has : (a : Chars) (xs ys : List Chars) → has_name a ys ≡ true → has_name a (names_joined xs ys) ≡ true
 joined-has a xs [] e = absurd (true-false (sym e))
-joined-has a xs (y ∷ ys) e = elim (either (same_name a y) (has_name a ys) e) [
+joined-has a xs (y ∷ ys) e = elim (or_cases (same_name a y) (has_name a ys) e) [
   | inl h ↦ joined-keeps a (joined_one xs y) ys (one-has a y xs h)
   | inr h ↦ joined-has a (joined_one xs y) ys h
 ]
 
-abbrev Covers : List Chars → List Chars → Type 0
+-- Each of the names is among the variables.
+abbrev pub Covers : List Chars → List Chars → Type 0
 Covers vs names = (a : Chars) → has_name a names ≡ true → has_name a vs ≡ true
 
 -- an instance of an instance at as many types as names
 
-twice-variable : (m : TypeMap) (vs : List Chars) (ts : List TypeTree) (a : Chars) → length ts ≡ length vs → has_name a vs ≡ true
+pub twice-variable : (m : TypeMap) (vs : List Chars) (ts : List TypeTree) (a : Chars) → length ts ≡ length vs → has_name a vs ≡ true
     → unwrap_or (found a (zip vs (map (type_instance m) ts))) (type_variable a) ≡ type_instance m (unwrap_or (found a (zip vs ts)) (type_variable a))
 twice-variable m [] ts a l e = absurd (true-false (sym e))
 twice-variable m (v ∷ vs) [] a l e = absurd (omega arith)
@@ -217,17 +203,17 @@ twice-variable m (v ∷ vs) (t ∷ ts) a l e = elim (bool_cases (same_name a v))
   | inl h ↦ ap (λ o. unwrap_or o (type_variable a)) (if-true (same_name a v) (Some (type_instance m t)) (found a (zip vs (map (type_instance m) ts))) h)
       ∙ sym (ap (λ o. type_instance m (unwrap_or o (type_variable a))) (if-true (same_name a v) (Some t) (found a (zip vs ts)) h))
   | inr h ↦ ap (λ o. unwrap_or o (type_variable a)) (if-false (same_name a v) (Some (type_instance m t)) (found a (zip vs (map (type_instance m) ts))) h)
-      ∙ twice-variable m vs ts a (omega arith) (elim (either (same_name a v) (has_name a vs) e) [ inl k ↦ absurd (true-false (sym k ∙ h)) | inr k ↦ k ])
+      ∙ twice-variable m vs ts a (omega arith) (elim (or_cases (same_name a v) (has_name a vs) e) [ inl k ↦ absurd (true-false (sym k ∙ h)) | inr k ↦ k ])
       ∙ sym (ap (λ o. type_instance m (unwrap_or o (type_variable a))) (if-false (same_name a v) (Some t) (found a (zip vs ts)) h))
 ]
 
 mutual
-  twice : (m : TypeMap) (vs : List Chars) (ts : List TypeTree) (t : TypeTree) → length ts ≡ length vs → Covers vs (type_names t)
+  pub twice : (m : TypeMap) (vs : List Chars) (ts : List TypeTree) (t : TypeTree) → length ts ≡ length vs → Covers vs (type_names t)
       → type_instance (zip vs (map (type_instance m) ts)) t ≡ type_instance m (type_instance (zip vs ts) t)
-  twice m vs ts (type_variable a) l c = twice-variable m vs ts a l (c a (or-left (same_name a a) false (true-name a a refl)))
+  twice m vs ts (type_variable a) l c = twice-variable m vs ts a l (c a (or_left (same_name a a) false (true-name a a refl)))
   twice m vs ts (type_constructor d us) l c = ap (type_constructor d) (all-twice m vs ts us l c)
 
-  all-twice : (m : TypeMap) (vs : List Chars) (ts : List TypeTree) (us : TypeTrees) → length ts ≡ length vs → Covers vs (types_names us)
+  pub all-twice : (m : TypeMap) (vs : List Chars) (ts : List TypeTree) (us : TypeTrees) → length ts ≡ length vs → Covers vs (types_names us)
       → types_instance (zip vs (map (type_instance m) ts)) us ≡ types_instance m (types_instance (zip vs ts) us)
   all-twice m vs ts no_types l c = refl
   all-twice m vs ts (type_and u us) l c = λ i. type_and

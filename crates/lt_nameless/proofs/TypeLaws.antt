@@ -1,6 +1,7 @@
 -- What opening, closing, replacing and type instances do to types, and what typed terms are.
 use Rattle.std.proofs.Common.{◌≡◌, inl, inr, List, [], ◌∷◌, Bool, true, false, ◌&&◌, ◌||◌, not, map, Some, None, refl, sym, ◌∙◌, ap, subst}
 use Rattle.std.specs.List.{zip}
+use Rattle.std.proofs.lemmas.Bool.{or_from}
 use Rattle.lt_definitions.specs.Types.{Chars, same_name, found, TypeTree, TypeMap, fun, row, type_instance}
 use Rattle.lt_definitions.specs.Terms.{TermTree, free_variable, bound_name, constant, application, abstraction, has_loose, HasNoLooseNames, term_instance}
 use Rattle.lt_definitions.specs.Typing.{Signature, type_fault, types_fault, HasType}
@@ -39,10 +40,6 @@ instances_keep_types sig m t ty e h = subst (λ (k : TypeMap). HasType sig [] (t
 
 -- typed terms
 
-false-either : (a b : Bool) → a ≡ false → b ≡ false → (a || b) ≡ false
-false-either false b d e = e
-false-either true b d e = absurd (true-false d)
-
 not-loose : (sig : Signature) (env : List (Chars × TypeTree)) (x : Chars) (t : TermTree) (ty : TypeTree) → found x env ≡ None → HasType sig env t ty
     → has_loose x t ≡ false
 not-loose sig env x (free_variable y u) ty e h = refl
@@ -52,7 +49,7 @@ not-loose sig env x (bound_name y) ty e h = elim (bool_cases (same_name x y)) [
 ]
 not-loose sig env x (constant c ts) ty e h = refl
 not-loose sig env x (application f a) ty e h =
-    false-either (has_loose x f) (has_loose x a) (not-loose sig env x f (fun h.0 ty) e h.1) (not-loose sig env x a h.0 e h.2)
+    or_from (has_loose x f) (has_loose x a) (not-loose sig env x f (fun h.0 ty) e h.1) (not-loose sig env x a h.0 e h.2)
 not-loose sig env x (abstraction y u b) ty e h = elim (bool_cases (same_name x y)) [
   | inl s ↦ ap (λ v. not v && has_loose x b) s
   | inr s ↦ ap (λ v. not v && has_loose x b) s ∙ not-loose sig ((y, u) ∷ env) x b h.0 (if-false (same_name x y) (Some u) (found x env) s ∙ e) h.2
