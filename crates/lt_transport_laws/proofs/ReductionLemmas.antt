@@ -23,7 +23,7 @@ alpha-nodes ps (abstraction x t b) (abstraction y u c) h = λ i. 1 + (type_nodes
 alpha-nodes ps s t h = absurd h
 
 -- both are abstractions, or neither
-alpha-abstraction : (ps : List (Chars × Chars)) (s t : TermTree) → AreAlpha ps s t → is_abstraction s ≡ is_abstraction t
+pub alpha-abstraction : (ps : List (Chars × Chars)) (s t : TermTree) → AreAlpha ps s t → is_abstraction s ≡ is_abstraction t
 alpha-abstraction ps (free_variable x t) (free_variable y u) h = refl
 alpha-abstraction ps (bound_name x) (bound_name y) h = refl
 alpha-abstraction ps (constant c ts) (constant d us) h = refl
@@ -31,14 +31,14 @@ alpha-abstraction ps (application f a) (application g b) h = refl
 alpha-abstraction ps (abstraction x t b) (abstraction y u c) h = refl
 alpha-abstraction ps s t h = absurd h
 
-redex-abstraction : (f a : TermTree) → is_abstraction f ≡ true → has_redex (application f a) ≡ true
+pub redex-abstraction : (f a : TermTree) → is_abstraction f ≡ true → has_redex (application f a) ≡ true
 redex-abstraction (free_variable x t) a h = absurd (cc)
 redex-abstraction (bound_name x) a h = absurd (cc)
 redex-abstraction (constant c ts) a h = absurd (cc)
 redex-abstraction (application f b) a h = absurd (cc)
 redex-abstraction (abstraction x t b) a h = refl
 
-redex-other : (f a : TermTree) → is_abstraction f ≡ false → has_redex (application f a) ≡ (has_redex f || has_redex a)
+pub redex-other : (f a : TermTree) → is_abstraction f ≡ false → has_redex (application f a) ≡ (has_redex f || has_redex a)
 redex-other (free_variable x t) a h = refl
 redex-other (bound_name x) a h = refl
 redex-other (constant c ts) a h = refl
@@ -70,7 +70,7 @@ opened-abstraction x v ty (application f a) = refl
 opened-abstraction x v ty (abstraction y u b) = refl
 
 -- and no redex
-opened-redex : (x v : Chars) (ty : TypeTree) (t : TermTree) → has_redex (opened x (free_variable v ty) t) ≡ has_redex t
+pub opened-redex : (x v : Chars) (ty : TypeTree) (t : TermTree) → has_redex (opened x (free_variable v ty) t) ≡ has_redex t
 opened-redex x v ty (free_variable y u) = refl
 opened-redex x v ty (bound_name y) = elim (bool_cases (same_name x y)) [
   | inl s ↦ ap has_redex (if-true (same_name x y) (free_variable v ty) (bound_name y) s)
@@ -94,3 +94,28 @@ steps-redex s u (opens x ty b a) = refl
 steps-redex s u (in_head f g a n h) = redex-other f a n ∙ ap (λ r. r || has_redex a) (steps-redex f g h)
 steps-redex s u (in_argument f a c n m h) = redex-other f a n ∙ ap (λ r. r || has_redex a) m ∙ steps-redex a c h
 steps-redex s u (in_body x v ty b c closing n h k) = sym (opened-redex x v ty b) ∙ steps-redex (opened x (free_variable v ty) b) c h
+
+same_count : (ps : List (Chars × Chars)) → length (lefts ps) ≡ length (rights ps)
+same_count [] = refl
+same_count (p ∷ ps) = ap suc (same_count ps)
+
+bound-alike : (ps : List (Chars × Chars)) (x y : Chars) → ArePaired ps x y → printed_bound x (lefts ps) ≡ printed_bound y (rights ps)
+bound-alike [] x y h = h
+bound-alike (p ∷ ps) x y (inl h) =
+    if-true (same_name x p.0) (codes "x" ++ decimal (length (lefts ps))) (printed_bound x (lefts ps)) (true-name x p.0 h.0)
+    ∙ ap (λ n. codes "x" ++ decimal n) (same_count ps)
+    ∙ sym (if-true (same_name y p.1) (codes "x" ++ decimal (length (rights ps))) (printed_bound y (rights ps)) (true-name y p.1 h.1))
+bound-alike (p ∷ ps) x y (inr h) =
+    if-false (same_name x p.0) (codes "x" ++ decimal (length (lefts ps))) (printed_bound x (lefts ps)) (false-name x p.0 h.0)
+    ∙ bound-alike ps x y h.2
+    ∙ sym (if-false (same_name y p.1) (codes "x" ++ decimal (length (rights ps))) (printed_bound y (rights ps)) (false-name y p.1 h.1))
+
+-- alpha-equal terms have one form with printed binder names
+pub printed-alike : (ps : List (Chars × Chars)) (s t : TermTree) → AreAlpha ps s t → as_printed (lefts ps) s ≡ as_printed (rights ps) t
+printed-alike ps (free_variable x t) (free_variable y u) h = λ i. free_variable (h.0 i) (h.1 i)
+printed-alike ps (bound_name x) (bound_name y) h = ap bound_name (bound-alike ps x y h)
+printed-alike ps (constant c ts) (constant d us) h = λ i. constant (h.0 i) (h.1 i)
+printed-alike ps (application f a) (application g b) h = λ i. application (printed-alike ps f g h.0 i) (printed-alike ps a b h.1 i)
+printed-alike ps (abstraction x t b) (abstraction y u c) h =
+    λ i. abstraction (codes "x" ++ decimal (same_count ps i)) (h.0 i) (printed-alike ((x, y) ∷ ps) b c h.1 i)
+printed-alike ps s t h = absurd h
