@@ -5,15 +5,17 @@ use Prim.Native.String.{String}
 use Rattle.lt_definitions.specs.Samples.{nat, tyvar, type_of_args, con, numbers}
 use Rattle.lt_definitions.specs.Types.{Chars, TypeTree, bool}
 use Rattle.lt_definitions.specs.Terms.{TermTree, falsity}
-use Rattle.lt_definitions.specs.Items.{Item, type_item, const_item, axiom_item, typedef_item, rep_label}
+use Rattle.lt_definitions.specs.Items.{Item, type_item, const_item, axiom_item, empty, context_of}
+use Rattle.lt_definitions.specs.Typing.{Signature}
 use Rattle.lt_transport_definitions.specs.Notation.{WithType, ◌⇒◌, ◌~◌, ◌·◌, ◌≐◌, equality_at}
-use Rattle.lt_transport_definitions.specs.Constants.{apply, rel_fun, relcompp, domainp, quotient}
-use Rattle.lt_transport_definitions.specs.Relations.{Relator, right_total, Correspondence, Parametrised}
+use Rattle.lt_transport_definitions.specs.Constants.{table_type, apply, rel_fun, relcompp, domainp, quotient}
+use Rattle.lt_transport_definitions.specs.Relations.{right_total, Parametrised, Registry}
 use Rattle.lt_transport_definitions.specs.RelatorForm.{equality_statement, quotient_statement, composition_statement, relator_type, mapping_type}
 use Rattle.lt_transport_definitions.specs.Bodies.{constant_items}
+use Rattle.lt_transport_definitions.specs.Laws.{relcompp_eq_left}
 use Rattle.lt_transport_definitions.specs.LawTexts.{further_statements}
-use Rattle.lt_transport_definitions.specs.Sessions.{Four, QuotientEntry, LiftedEntry, TransportEntry, Session}
-use Rattle.lt_transport_definitions.specs.Commands.{Registration, corr_registered, relator_registered, form_registered, property_registered, domain_registered, rule_registered, quotient_registered, lifted_registered, transport_registered, with_registration}
+use Rattle.lt_transport_definitions.specs.Sessions.{Four, QuotientEntry, Session}
+use Rattle.lt_transport_definitions.specs.Commands.{corr_registered, relator_registered, form_registered, property_registered, domain_registered, quotient_registered, lifted_registered, transport_registered, with_registration}
 use Rattle.lt_transport_definitions.specs.Rows.{declared_constant}
 use Rattle.lt_transport_definitions.specs.Samples.{session_over, list_relator}
 
@@ -146,3 +148,28 @@ over_relator = with_registration over_lists (relator_registered list_relator)
 -- a session in which no law is registered
 abbrev pub lawless : Session → Session
 lawless s = record s { laws = [] }
+
+-- a parametrised form of T
+abbrev pub parametrised_box : Parametrised
+parametrised_box = record { name = codes "pcr_box"; of = codes "T"; eq = codes "zz"; defined = codes "zz" }
+
+-- with its constant declared
+abbrev pub parametrised_signature : Signature
+parametrised_signature = (context_of empty (type_item (codes "cup") 1 ∷ type_item (codes "box") 1 ∷ four_declared (cup (tyvar "a")) "R" "A" "B" "T"
+    ++ declares "pcr_box" ((tyvar "a" ~ tyvar "b") ⇒ cup (tyvar "a") ~ box (tyvar "b")) ∷ [])).signature
+
+-- and T registered
+abbrev pub parametrised_registry : Registry
+parametrised_registry = over_correspondence.registry
+
+-- relcompp with a type, and the law that eq is its left unit
+abbrev pub relcompp_items : TypeTree → List Item
+relcompp_items ty = const_item (codes "relcompp") ty ∷ axiom_item (codes "l") relcompp_eq_left.term ∷ []
+
+-- with its own type
+abbrev pub over_relcompp : Session
+over_relcompp = session_over (relcompp_items (table_type (codes "relcompp")))
+
+-- with another type, over which the law has its type too
+abbrev pub over_other_relcompp : Session
+over_other_relcompp = session_over (relcompp_items ((tyvar "a" ~ tyvar "b") ⇒ (tyvar "a" ~ tyvar "c") ⇒ (tyvar "b" ~ tyvar "c")))

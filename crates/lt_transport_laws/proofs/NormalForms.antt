@@ -6,7 +6,7 @@ use Rattle.lt_definitions.specs.Terms.{TermTree, free_variable, application, abs
 use Rattle.lt_definitions.specs.Alpha.{AreAlpha, IsAlphaEqual}
 use Rattle.lt_definitions.specs.Binding.{opened, Closes}
 use Rattle.lt_nameless.proofs.AlphaLaws.{alpha_is_reflexive, alpha_is_symmetric, alpha_is_transitive, alpha_keeps_free_variables, alpha_kept_by_opening, alpha_kept_by_closing}
-use Rattle.lt_transport_definitions.specs.Reduction.{has_redex, is_abstraction, Steps, opens, in_head, in_argument, in_body, LeadsTo, PassesLimit, NonePassesBefore, IsNormLimit, IsNormalForm}
+use Rattle.lt_transport_definitions.specs.Reduction.{has_redex, is_abstraction, Steps, opens, in_head, in_argument, in_body, LeadsTo, PassesLimit, IsNormLimit, IsNormalForm}
 use Rattle.lt_transport_laws.proofs.ReductionLemmas.{alpha-nodes, alpha-abstraction, alpha-redex, steps-redex}
 use Rattle.lt_transport_laws.proofs.Exchanges.{swapped, swapped-steps, swapped-renames, renamed-closing}
 use Rattle.lt_transport_laws.proofs.LooseNames.{opened-none, variable-none, head-none, argument-none, steps-none}

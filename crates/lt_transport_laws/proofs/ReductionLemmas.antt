@@ -11,7 +11,7 @@ use Rattle.lt_definitions.proofs.SameNames.{bool_cases, true-name, false-name}
 use Rattle.lt_nameless.proofs.Alphas.{lefts, rights}
 use Rattle.lt_nameless.proofs.BindingLemmas.{if-true, if-false}
 use Rattle.lt_nameless.proofs.AlphaLaws.{alpha_is_reflexive, alpha_is_symmetric, alpha_is_transitive, alpha_keeps_free_variables, alpha_keeps_loose_names, alpha_kept_by_opening, alpha_kept_by_closing}
-use Rattle.lt_transport_definitions.specs.Reduction.{has_redex, is_abstraction, Steps, opens, in_head, in_argument, in_body, LeadsTo, PassesLimit, NonePassesBefore, IsNormLimit, IsNormalForm, as_printed}
+use Rattle.lt_transport_definitions.specs.Reduction.{has_redex, is_abstraction, Steps, opens, in_head, in_argument, in_body, as_printed}
 
 -- alpha-equal terms have as many nodes
 pub alpha-nodes : (ps : List (Chars × Chars)) (s t : TermTree) → AreAlpha ps s t → term_nodes s ≡ term_nodes t

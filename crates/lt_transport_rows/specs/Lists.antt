@@ -3,9 +3,9 @@
 use Rattle.std.specs.Prelude.{List, [], ◌∷◌, Option, codes}
 use Rattle.lt_definitions.specs.Types.{bool, fun}
 use Rattle.lt_definitions.specs.Items.{type_item, const_item, axiom_item}
-use Rattle.lt_transport_definitions.specs.Commands.{Command, item_command, relator_command, rule_command, lifting_command, quotient_type_command, lift_command, parametric_command, param_rule_command, equiv_command, carry_command}
 use Rattle.lt_transport_definitions.specs.Relations.{constructed, no_relations}
 use Rattle.lt_transport_definitions.specs.Correspondence.{chosen_name, chosen_rule, chosen_application, chosen_abstraction}
+use Rattle.lt_transport_definitions.specs.Commands.{Command, item_command, relator_command, rule_command, lifting_command, quotient_type_command, lift_command, parametric_command, param_rule_command, equiv_command, carry_command}
 use Rattle.lt_transport_rows.specs.Computing.{Told, candidate, tv, tc, cn, bn, ap, lm, untold, told}
 
 -- a composed quotient: its transfer lemma is no rule
