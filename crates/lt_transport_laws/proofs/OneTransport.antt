@@ -26,7 +26,8 @@ use Rattle.lt_transport_definitions.specs.Rows.{BlockOutcome, Row, ◌⊳◌, wi
 use Rattle.lt_transport_definitions.specs.Parts.{registration_test, name_test, names_added}
 use Rattle.lt_transport_definitions.specs.TransportRows.{question_of, laws_asked, size_test, transported, is_implied, adds_transport, transport_row}
 use Rattle.lt_transport_definitions.specs.Blocks.{Unless, ComesOfRow, ComesOf}
-use Rattle.lt_transport_laws.specs.Statements.{IsRegistry, AreScopedDomains, IsScopedSession, EachOutcomeIsOne}
+use Rattle.lt_transport_laws.specs.Statements.{IsRegistry}
+use Rattle.lt_transport_laws.specs.SessionStatements.{AreScopedDomains, IsScopedSession, EachOutcomeIsOne}
 use Rattle.lt_transport_laws.proofs.Rows.{AllOf}
 use Rattle.lt_transport_laws.proofs.Exchanges.{neither}
 use Rattle.lt_transport_laws.proofs.ReductionLemmas.{printed-alike}

@@ -13,7 +13,7 @@ use Rattle.lt_transport_definitions.specs.Answers.{needs_test, needs, value_of}
 use Rattle.lt_transport_definitions.specs.Reading.{binders, behind_binders, relation_name, opened_from, body_of, prefix_of, read_relation}
 use Rattle.lt_transport_definitions.specs.RuleForm.{TransferRule, RulePart, rule_prefix, rule_head, rule_relation, rule_types, side_before, Conditioned, with_side, conditioned, Related, as_related, are_types_right, rule_form}
 use Rattle.lt_transport_definitions.specs.Sessions.{Session, signature_of, statement_at, rule_now, rules_now}
-use Rattle.lt_transport_laws.specs.Statements.{AreScopedStatements}
+use Rattle.lt_transport_laws.specs.SessionStatements.{AreScopedStatements}
 use Rattle.lt_transport_laws.proofs.Rows.{AllOf}
 use Rattle.lt_transport_laws.proofs.LooseNames.{opened-loose, variable-none, head-none, argument-none}
 
