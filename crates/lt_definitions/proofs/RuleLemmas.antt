@@ -1,5 +1,5 @@
 -- What follows from the words in which the rules are written.
-use Rattle.std.proofs.Common.{◌≡◌, ℕ, List, Bool, true, false, Option, Some, None, Result, Err, ◌∙◌, ap}
+use Rattle.std.proofs.Common.{◌≡◌, ℕ, List, Bool, true, false, Option, Some, None, if◌then◌else◌, Result, Err, refl, ◌∙◌, ap}
 use Rattle.lt_definitions.specs.declared.reason.Reason.{Reason}
 use Rattle.lt_definitions.specs.declared.reason.Reason.TheVariants.{MissingLine}
 use Rattle.lt_definitions.specs.Rules.{line_at, where_holds, with_found, with_line, with_lines}
@@ -29,3 +29,8 @@ pub lines-on : {A S : Type 0} (done : List A) (i j : ℕ) (s u : A) (f : A → A
     → line_at done i ≡ Some s → line_at done j ≡ Some u → with_lines done i j f ≡ f s u
 lines-on done i j s u f e d =
     line-on done i s (λ v. with_line done j (λ w. f v w)) e ∙ line-on done j u (λ w. f s w) d
+
+-- a form that is read where a test holds
+pub some-if : {A : Type 0} (b : Bool) (x y : A) → (if b then Some x else None) ≡ Some y → (b ≡ true) × (x ≡ y)
+some-if true x y e = (refl, let same : x ≡ y = cc e in same)
+some-if false x y e = absurd (cc e)

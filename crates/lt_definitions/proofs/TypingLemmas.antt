@@ -1,10 +1,10 @@
 -- What follows from the words in which typing is written.
 use Rattle.std.proofs.Common.{◌≡◌, Option, Some, None, Result, Ok, Err, refl, ap}
+use Rattle.std.specs.Result.{result_ok, result_err}
 use Rattle.std.proofs.lemmas.Bool.{cond-true}
 use Rattle.lt_definitions.specs.Types.{TypeTree, fun, same_type}
 use Rattle.lt_definitions.specs.Typing.{Fault, earlier, applied_type}
-use Rattle.lt_definitions.specs.Rules.{ok_of, joined_type}
-use Rattle.lt_definitions.specs.Derivations.{fault_of}
+use Rattle.lt_definitions.specs.Rules.{joined_type}
 use Rattle.lt_definitions.proofs.SameNames.{type-refl}
 
 -- neither of two faults
@@ -17,7 +17,7 @@ none-both None b d e = e
 none-both (Some f) b d e = absurd (cc d)
 
 -- what has no fault has a type
-pub typed-some : (r : Result TypeTree Fault) → fault_of r ≡ None → (ty : TypeTree) × (r ≡ Ok ty)
+pub typed-some : (r : Result TypeTree Fault) → result_err r ≡ None → (ty : TypeTree) × (r ≡ Ok ty)
 typed-some (Ok ty) e = (ty, refl)
 typed-some (Err f) e = absurd (cc e)
 
@@ -26,4 +26,4 @@ pub applied-fun : (from to : TypeTree) → applied_type (fun from to) from ≡ O
 applied-fun from to = cond-true (same_type from from) (Ok to) _ (type-refl from)
 
 pub joined-fun : (from to : TypeTree) → joined_type (fun from to) from ≡ Some to
-joined-fun from to = ap ok_of (applied-fun from to)
+joined-fun from to = ap result_ok (applied-fun from to)

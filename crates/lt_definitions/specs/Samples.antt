@@ -1,4 +1,6 @@
--- Small types, terms, statements and theories of which the examples speak.
+-- Small types, terms, statements and theories of which the examples speak. Nothing but examples
+-- cites them.
+-- Source: this project's own.
 use Prim.Native.String.{String}
 use Rattle.std.specs.Prelude.{ℕ, List, [], ◌∷◌, ◌++◌, Bool, false, ◌&&◌, Option, Some, None, Result, Ok, Err, codes}
 use Rattle.std.specs.Cmp.Lexicographic.{pointwise}
@@ -72,11 +74,17 @@ all_equal ty = for_all ty (lambda "x" ty (equation ty (bound "x") (bound "x")))
 
 -- the signature of these constants
 abbrev pub samples : Signature
-samples = record built_in { consts = built_in.consts ++ (codes "p", bool) ∷ (codes "q", bool) ∷ (codes "f", fun bool bool) ∷ [] }
+samples =
+    record built_in {
+      consts = built_in.consts ++ (codes "p", bool) ∷ (codes "q", bool)
+          ∷ (codes "f", fun bool bool) ∷ [];
+    }
 
 -- |- f = f, p --> q, q --> p, all y. f y, all f
 abbrev pub facts : List (Chars × TermTree)
-facts = (codes "ff", equation (fun bool bool) f f) ∷ (codes "pq", implies p q) ∷ (codes "qp", implies q p)
+facts =
+    (codes "ff", equation (fun bool bool) f f) ∷ (codes "pq", implies p q)
+    ∷ (codes "qp", implies q p)
     ∷ (codes "fs", for_all bool f_of) ∷ (codes "fx", for_all bool f) ∷ []
 
 -- the number and the fault, where there is one
@@ -88,7 +96,8 @@ fault_of_lines (Err e) = Some e
 abbrev pub refused_line : List (Rule TermTree) → Option (ℕ × LineFault)
 refused_line lines = fault_of_lines (derived samples facts [] lines)
 
--- whether the last sequent has these hypotheses in this order and this conclusion, up to alpha equality
+-- whether the last sequent has these hypotheses in this order and this conclusion, up to alpha
+-- equality
 abbrev pub is_last : List Sequent → List TermTree → TermTree → Bool
 is_last [] hs c = false
 is_last (s ∷ []) hs c = pointwise is_alpha s.hyps hs && is_alpha s.concl c
@@ -105,7 +114,9 @@ derive lines hs c = ends (derived samples facts [] lines) hs c
 
 -- a type nat with an element z, two predicates P and Q, and the axiom Pz : P z
 abbrev pub numbers : List Item
-numbers = type_item (codes "nat") 0 ∷ const_item (codes "z") nat ∷ const_item (codes "P") (fun nat bool) ∷ const_item (codes "Q") (fun nat bool)
+numbers =
+    type_item (codes "nat") 0 ∷ const_item (codes "z") nat
+    ∷ const_item (codes "P") (fun nat bool) ∷ const_item (codes "Q") (fun nat bool)
     ∷ axiom_item (codes "Pz") (app (con "P") (con "z")) ∷ []
 
 -- what these items declare and state
@@ -114,11 +125,14 @@ over_numbers = context_of empty numbers
 
 -- typedef t 'a.. : P by Pz abs abs_t rep rep_t
 abbrev pub typedef_t : List Chars → TermTree → Item
-typedef_t params predicate = typedef_item (codes "t") params predicate (codes "Pz") (codes "abs_t") (codes "rep_t")
+typedef_t params predicate =
+    typedef_item (codes "t") params predicate (codes "Pz") (codes "abs_t") (codes "rep_t")
 
 -- p --> q among the axioms
 abbrev pub implication : List Item
-implication = const_item (codes "p") bool ∷ const_item (codes "q") bool ∷ axiom_item (codes "pq") (implies p q) ∷ []
+implication =
+    const_item (codes "p") bool ∷ const_item (codes "q") bool
+    ∷ axiom_item (codes "pq") (implies p q) ∷ []
 
 -- what these items declare and state
 abbrev pub over_implication : Context

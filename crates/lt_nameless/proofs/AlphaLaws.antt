@@ -1,5 +1,6 @@
 -- Alpha equality is an equivalence, and is kept by opening, closing, replacing and type instances.
 use Rattle.std.proofs.Common.{◌≡◌, inl, inr, List, [], ◌∷◌, ◌++◌, Bool, true, false, ◌&&◌, ◌||◌, not, refl, sym, ◌∙◌, ap, append_assoc, append-nil}
+use Rattle.std.proofs.lemmas.Bool.{and_right}
 use Rattle.lt_definitions.specs.Types.{Chars, same_name, has_name, TypeTree, TypeMap}
 use Rattle.lt_definitions.specs.Terms.{TermTree, free_variable, bound_name, constant, application, abstraction, has_free, has_loose, term_instance}
 use Rattle.lt_definitions.specs.Alpha.{AreAlpha}
@@ -43,17 +44,14 @@ name-loose x (b ∷ bs) y = elim (bool_cases (same_name y b)) [
     | inl k ↦ ap (λ v. not (v || has_name x bs) && same_name x y) k
     | inr k ↦ ap (λ v. not (v || has_name x bs) && same_name x y) k
         ∙ ap (λ v. not (has_name x bs) && v) (false-name x y (λ q. name-false x b k (q ∙ name-true y b h)))
-        ∙ and-false (not (has_name x bs))
+        ∙ and_right (not (has_name x bs)) false refl
   ])
   | inr h ↦ ap (is_loose x) (name-miss b bs y h) ∙ deeper-loose x (nameless_name bs y) ∙ name-loose x bs y ∙ sym (elim (bool_cases (same_name x b)) [
     | inl k ↦ ap (λ v. not (v || has_name x bs) && same_name x y) k
-        ∙ sym (ap (λ v. not (has_name x bs) && v) (false-name x y (λ q. name-false y b h (sym q ∙ name-true x b k))) ∙ and-false (not (has_name x bs)))
+        ∙ sym (ap (λ v. not (has_name x bs) && v) (false-name x y (λ q. name-false y b h (sym q ∙ name-true x b k))) ∙ and_right (not (has_name x bs)) false refl)
     | inr k ↦ ap (λ v. not (v || has_name x bs) && same_name x y) k
   ])
-] where
-  and-false : (a : Bool) → (a && false) ≡ false
-  and-false true = refl
-  and-false false = refl
+]
 
 and-either : (a b c : Bool) → (a && (b || c)) ≡ ((a && b) || (a && c))
 and-either true b c = refl
@@ -65,14 +63,10 @@ and-neither true false c = refl
 and-neither false true c = refl
 and-neither false false c = refl
 
-and-false : (a : Bool) → (a && false) ≡ false
-and-false true = refl
-and-false false = refl
-
 loose-places : (x : Chars) (bs : List Chars) (t : TermTree) → is_loose x (nameless bs t) ≡ (not (has_name x bs) && has_loose x t)
-loose-places x bs (free_variable y u) = sym (and-false (not (has_name x bs)))
+loose-places x bs (free_variable y u) = sym (and_right (not (has_name x bs)) false refl)
 loose-places x bs (bound_name y) = name-loose x bs y
-loose-places x bs (constant c ts) = sym (and-false (not (has_name x bs)))
+loose-places x bs (constant c ts) = sym (and_right (not (has_name x bs)) false refl)
 loose-places x bs (application f a) =
     (λ i. loose-places x bs f i || loose-places x bs a i) ∙ sym (and-either (not (has_name x bs)) (has_loose x f) (has_loose x a))
 loose-places x bs (abstraction y u b) = loose-places x (y ∷ bs) b ∙ and-neither (same_name x y) (has_name x bs) (has_loose x b)

@@ -1,14 +1,14 @@
 -- Opening, closing, replacing, instances and typing of terms, and the same of their nameless forms.
-use Rattle.std.proofs.Common.{◌≡◌, ◌⊎◌, inl, inr, ℕ, zero, suc, ◌<◌, List, [], ◌∷◌, ◌++◌, Bool, true, false, ◌&&◌, ◌||◌, not, if◌then◌else◌, length, replicate, nat_eq, refl, sym, ◌∙◌, ap, subst, arith}
+use Rattle.std.proofs.Common.{◌≡◌, inl, inr, ℕ, zero, suc, ◌<◌, List, [], ◌∷◌, ◌++◌, true, false, ◌&&◌, ◌||◌, not, length, replicate, nat_eq, refl, sym, ◌∙◌, ap, subst, arith}
 use Rattle.std.proofs.lemmas.Bool.Decides.{nat_tests}
-use Rattle.std.proofs.lemmas.Bool.{or_parts, or_from, or_cases}
+use Rattle.std.proofs.lemmas.Bool.{or_parts, or_from, or_cases, or_left, or_right}
 pub use Rattle.std.proofs.lemmas.Bool.{cond-true as if-true, cond-false as if-false}
 use Rattle.lt_definitions.specs.Types.{Chars, same_name, has_name, TypeTree, TypeMap, same_type, type_instance}
 use Rattle.lt_definitions.specs.Terms.{TermTree, free_variable, bound_name, constant, application, abstraction, has_free, has_loose, term_instance}
 use Rattle.lt_definitions.specs.Binding.{opened, replaced, longest, new_binder, closed_over}
 use Rattle.lt_nameless.specs.Nameless.{Nameless, nameless_free, nameless_bound, nameless_loose, nameless_application, nameless_abstraction, deeper, nameless_name, nameless}
 use Rattle.lt_nameless.specs.NamelessRules.{instance_at, abstracted, nameless_replaced, nameless_instance, nameless_has_free, has_index}
-use Rattle.lt_definitions.proofs.SameNames.{true-false, bool_cases, name-true, true-name, name-false, false-name}
+use Rattle.lt_definitions.proofs.SameNames.{true-false, bool_cases, name-true, true-name, name-false, false-name, longer-differs}
 use Rattle.lt_nameless.proofs.Alphas.{name-hit, name-miss, IsPlace, place}
 
 name-turn : (x y : Chars) → same_name x y ≡ true → same_name y x ≡ true
@@ -49,10 +49,7 @@ hidden bs x (free_variable y u) e = refl
 hidden bs x (bound_name y) e = hidden-name bs x y e
 hidden bs x (constant c ts) e = refl
 hidden bs x (application f a) e = λ i. nameless_application (hidden bs x f e i) (hidden bs x a e i)
-hidden bs x (abstraction y u b) e = ap (nameless_abstraction u) (hidden (y ∷ bs) x b (more (same_name x y) (has_name x bs) e)) where
-  more : (a b : Bool) → b ≡ true → (a || b) ≡ true
-  more true b e = refl
-  more false b e = e
+hidden bs x (abstraction y u b) e = ap (nameless_abstraction u) (hidden (y ∷ bs) x b (or_right (same_name x y) (has_name x bs) e))
 
 -- the indices of a term are below its binders
 
@@ -114,13 +111,10 @@ opened-nameless x by bs (application f a) s e =
 opened-nameless x by bs (abstraction y u b) s e = ap (nameless_abstraction u) (elim (bool_cases (same_name x y)) [
   | inl h ↦ ap (nameless (y ∷ bs)) (if-true (same_name x y) b (opened x by b) h)
       ∙ sym (kept (y ∷ bs) (nameless [] by) b)
-      ∙ ap (instance_at (length (y ∷ bs)) (nameless [] by)) (sym (hidden (y ∷ bs) x b (here (same_name x y) (has_name x bs) h)))
+      ∙ ap (instance_at (length (y ∷ bs)) (nameless [] by)) (sym (hidden (y ∷ bs) x b (or_left (same_name x y) (has_name x bs) h)))
   | inr h ↦ ap (nameless (y ∷ bs)) (if-false (same_name x y) b (opened x by b) h)
       ∙ opened-nameless x by (y ∷ bs) b s (or_from (same_name x y) (has_name x bs) h e)
-]) where
-  here : (a b : Bool) → a ≡ true → (a || b) ≡ true
-  here true b e = refl
-  here false b e = absurd (true-false (sym e))
+])
 
 -- replacing
 
@@ -150,9 +144,6 @@ place-abstracted d x ty (nameless_bound i) h = refl
 place-abstracted d x ty (nameless_loose y) h = refl
 place-abstracted d x ty n h = absurd h
 
-longer-differs : (x y : Chars) → length y < length x → same_name x y ≡ false
-longer-differs x y h = false-name x y (λ q. let l : length x ≡ length y = ap length q in absurd (omega arith))
-
 closed-body : (n x : Chars) (ty : TypeTree) (bs : List Chars) (t : TermTree) → longest t < length n → has_name n bs ≡ false
     → nameless (bs ++ n ∷ []) (replaced x ty (bound_name n) t) ≡ abstracted (length bs) x ty (nameless bs t)
 closed-body n x ty bs (free_variable y u) l e = elim (bool_cases (same_name x y && same_type ty u)) [
@@ -169,7 +160,7 @@ closed-body n x ty bs (application f a) l e = λ i. nameless_application
 closed-body n x ty bs (abstraction y u b) l e = ap (nameless_abstraction u)
     (closed-body n x ty (y ∷ bs) b (omega arith) (or_from (same_name n y) (has_name n bs) (longer-differs n y (omega arith)) e))
 
-length-replicate : (n c : ℕ) → length (replicate n c) ≡ n
+pub length-replicate : (n c : ℕ) → length (replicate n c) ≡ n
 length-replicate zero c = refl
 length-replicate (suc n) c = ap suc (length-replicate n c)
 
@@ -231,12 +222,9 @@ loose-nameless x bs (constant c ts) e = refl
 loose-nameless x bs (application f a) e = λ i. loose-nameless x bs f e i || loose-nameless x bs a e i
 loose-nameless x bs (abstraction y u b) e = elim (bool_cases (same_name x y)) [
   | inl h ↦ ap (λ v. not v && has_loose x b) h ∙ sym (no-index (y ∷ bs) b)
-      ∙ ap (has_index (length (y ∷ bs))) (sym (hidden (y ∷ bs) x b (here (same_name x y) (has_name x bs) h)))
+      ∙ ap (has_index (length (y ∷ bs))) (sym (hidden (y ∷ bs) x b (or_left (same_name x y) (has_name x bs) h)))
   | inr h ↦ ap (λ v. not v && has_loose x b) h ∙ loose-nameless x (y ∷ bs) b (or_from (same_name x y) (has_name x bs) h e)
-] where
-  here : (a b : Bool) → a ≡ true → (a || b) ≡ true
-  here true b e = refl
-  here false b e = absurd (true-false (sym e))
+]
 
 pub not-loose : (x : Chars) (bs : List Chars) (t : TermTree) → has_loose x t ≡ false → nameless (bs ++ x ∷ []) t ≡ nameless bs t
 not-loose x bs (free_variable y u) e = refl
@@ -245,9 +233,6 @@ not-loose x bs (constant c ts) e = refl
 not-loose x bs (application f a) e =
     let h = or_parts (has_loose x f) (has_loose x a) e in λ i. nameless_application (not-loose x bs f h.0 i) (not-loose x bs a h.1 i)
 not-loose x bs (abstraction y u b) e = ap (nameless_abstraction u) (elim (bool_cases (same_name x y)) [
-  | inl h ↦ hidden (y ∷ bs) x b (here (same_name x y) (has_name x bs) h)
+  | inl h ↦ hidden (y ∷ bs) x b (or_left (same_name x y) (has_name x bs) h)
   | inr h ↦ not-loose x (y ∷ bs) b (sym (ap (λ v. not v && has_loose x b) h) ∙ e)
-]) where
-  here : (a b : Bool) → a ≡ true → (a || b) ≡ true
-  here true b e = refl
-  here false b e = absurd (true-false (sym e))
+])

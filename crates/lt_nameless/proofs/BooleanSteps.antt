@@ -1,27 +1,29 @@
 -- What a rule gives from boolean sequents is a boolean sequent.
 use Rattle.std.proofs.Common.{◌≡◌, ℕ, zero, suc, List, [], ◌∷◌, ◌++◌, Bool, true, false, ◌&&◌, not, if◌then◌else◌, map, slice_get, Option, Some, None, Result, Ok, Err, codes, refl, sym, ◌∙◌, ap, subst, arith}
 use Rattle.std.specs.List.{All, list_any}
-use Rattle.std.specs.Result.{result_unwrap_or}
+use Rattle.std.specs.Result.{result_ok, result_unwrap_or}
 use Rattle.std.proofs.lemmas.Bool.{not-true}
+use Rattle.lt_definitions.specs.Items.{Item, empty, context_of}
 use Rattle.lt_definitions.specs.Types.{Chars, same_name, found, TypeTree, TypeMap, type_variable, type_constructor, no_types, type_and, bool, fun, row, same_type}
 use Rattle.lt_definitions.specs.Terms.{TermTree, bound_name, constant, application, abstraction, equation, implies, for_all, some_of, falsity, has_free, has_loose, term_instance}
-use Rattle.lt_definitions.specs.Typing.{Signature, built_in, Fault, earlier, type_fault, types_fault, at_types, applied_type, typed, HasType, is_of_type, has_type}
+use Rattle.lt_definitions.specs.Typing.{Signature, built_in, Fault, type_fault, types_fault, at_types, applied_type, typed, HasType, is_of_type, has_type}
 use Rattle.lt_definitions.specs.Alpha.{AreAlpha, is_alpha}
 use Rattle.lt_definitions.specs.Binding.{opened, replaced, new_binder, closed_over}
-use Rattle.lt_definitions.specs.Rules.{Sequent, Rule, by_assume, by_weaken, by_refl, by_sym, by_trans, by_cong, by_abs, by_beta, by_eta, by_eqmp, by_impI, by_mp, by_allI, by_allE, by_iff, by_inst, by_tinst, by_select, by_ccontr, by_thm, has_term, union, without, distinct, Outcome, gives, where_holds, with_found, line_at, as_equation, as_implication, as_forall, at_argument, beta_of, eta_of, type_of, predicate_over, joined_type, ok_of, selection, step}
+use Rattle.lt_definitions.specs.Rules.{Sequent, Rule, by_assume, by_weaken, by_refl, by_sym, by_trans, by_cong, by_abs, by_beta, by_eta, by_eqmp, by_impI, by_mp, by_allI, by_allE, by_iff, by_inst, by_tinst, by_select, by_ccontr, by_thm, has_term, union, without, distinct, Outcome, gives, where_holds, with_found, line_at, as_equation, as_implication, as_forall, at_argument, beta_of, eta_of, type_of, predicate_over, joined_type, selection, step}
 use Rattle.lt_definitions.specs.declared.reason.Reason.{Reason}
 use Rattle.lt_definitions.specs.declared.reason.Reason.TheVariants.{MissingLine, NotBool, NotEquation, MiddleDiffers, TypeDiffers, VariableInHypothesis, NotRedex, NotImplication, NotForall, UnknownLabel}
 use Rattle.lt_definitions.specs.Derivations.{Derives, rule_fault, term_fault, IsPartOf}
 use Rattle.lt_nameless.specs.Booleans.{IsSoundSignature, IsBoolean, IsBooleanSequent, AreBooleanStatements}
 use Rattle.lt_nameless.specs.NamelessRules.{nameless_typed}
-use Rattle.lt_definitions.specs.Theory.{Item, empty, context_of, IsPlainTheory}
+use Rattle.lt_definitions.specs.Theory.{IsPlainTheory}
 use Rattle.lt_definitions.proofs.SameNames.{true-false, both-true, name-true, type-true}
 use Rattle.lt_nameless.proofs.Alphas.{alpha-nameless, alpha-is}
-use Rattle.lt_nameless.proofs.Typings.{typed-has, has-typed, applied-ok}
+use Rattle.lt_nameless.proofs.Typings.{typed-has, has-typed, applied-ok, ok_type, ok-inj}
 use Rattle.lt_nameless.proofs.NamelessTyping.{typed-nameless, typed-of}
 use Rattle.lt_nameless.proofs.StatementTypes.{IsSound, found-first, sound-items, sound-empty, more-binders, typed-sound, bool-sound, sound-fun, equation-typed, implies-typed, for_all-typed}
 use Rattle.lt_nameless.proofs.Substitutions.{opened-has, not-loose-has, replaced-has, closed-inner, closed-has, instance-has}
-use Rattle.lt_definitions.proofs.TypingLemmas.{both-none, none-both}
+use Rattle.lt_definitions.proofs.TypingLemmas.{none-both}
+use Rattle.lt_definitions.proofs.RuleLemmas.{some-if}
 
 -- lists of boolean terms
 
@@ -117,10 +119,6 @@ good-holds sig false r o h = tt
 
 -- the parts of equations, implications and quantified terms
 
-some-if : {A : Type 0} (b : Bool) (x y : A) → (if b then Some x else None) ≡ Some y → (b ≡ true) × (x ≡ y)
-some-if true x y e = (refl, let same : x ≡ y = cc e in same)
-some-if false x y e = absurd (cc e)
-
 equation-is : (t : TermTree) (e : TypeTree × TermTree × TermTree) → as_equation t ≡ Some e → t ≡ equation e.0 e.1 e.2
 equation-is (application (application (constant c (ty ∷ [])) s) t) e q =
     let k = some-if (same_name c (codes "eq")) (ty, s, t) e q in
@@ -191,12 +189,6 @@ forall-side sig b t e h q = for_all-part sig b e.0 e.1 (subst (λ (t : TermTree)
 
 -- types of terms
 
-abbrev ok_type : TypeTree → Result TypeTree Fault
-ok_type t = Ok t
-
-ok-inj : (x y : TypeTree) → ok_type x ≡ ok_type y → x ≡ y
-ok-inj x y e = cc e
-
 pub typed-alpha : (sig : Signature) (s t : TermTree) → AreAlpha [] s t → typed sig [] s ≡ typed sig [] t
 typed-alpha sig s t h =
     typed-nameless sig [] s ∙ ap (nameless_typed sig []) (alpha-nameless [] s t h) ∙ sym (typed-nameless sig [] t)
@@ -218,7 +210,7 @@ typed-as sig t e =
     let h = typed-of sig t e in
     subst (λ (u : TypeTree). HasType sig [] t u) (sym (ap (λ r. result_unwrap_or r bool) (has-typed sig [] t h.0 h.1))) h.1
 
-joined-ok : (r : Result TypeTree Fault) (ty : TypeTree) → ok_of r ≡ Some ty → r ≡ Ok ty
+joined-ok : (r : Result TypeTree Fault) (ty : TypeTree) → result_ok r ≡ Some ty → r ≡ Ok ty
 joined-ok (Ok u) ty e = let same : u ≡ ty = cc e in ap ok_type same
 joined-ok (Err f) ty e = absurd (cc e)
 

@@ -1,16 +1,12 @@
 -- Nameless terms and the named ones that stand for them.
-use Rattle.std.proofs.Common.{◌≡◌, inl, inr, ℕ, zero, suc, ◌<◌, ◌≤◌, List, [], ◌∷◌, length, map, replicate, get_or, Some, refl, sym, ◌∙◌, ap, subst, arith}
+use Rattle.std.proofs.Common.{◌≡◌, inl, inr, ℕ, zero, suc, ◌<◌, ◌≤◌, List, [], ◌∷◌, length, map, get_or, Some, refl, sym, ◌∙◌, ap, subst, arith}
 use Rattle.lt_definitions.specs.Types.{Chars, same_name, found, TypeTree}
 use Rattle.lt_definitions.specs.Terms.{TermTree, free_variable, bound_name, constant, application, abstraction}
 use Rattle.lt_definitions.specs.Typing.{Signature, HasType}
 use Rattle.lt_nameless.specs.Nameless.{Nameless, nameless_free, nameless_bound, nameless_loose, nameless_constant, nameless_application, nameless_abstraction, deeper, nameless_name, nameless, IsWhole, binder_at, binders_at, named}
 use Rattle.lt_definitions.proofs.SameNames.{bool_cases, true-name, false-name}
 use Rattle.lt_nameless.proofs.Alphas.{name-hit, name-miss}
-use Rattle.lt_nameless.proofs.BindingLemmas.{if-false}
-
-length-replicate : (n c : ℕ) → length (replicate n c) ≡ n
-length-replicate zero c = refl
-length-replicate (suc n) c = ap suc (length-replicate n c)
+use Rattle.lt_nameless.proofs.BindingLemmas.{if-false, length-replicate}
 
 short : (d i : ℕ) → i < d → length (get_or (binders_at d) i []) ≤ d
 short zero i h = absurd (omega arith)

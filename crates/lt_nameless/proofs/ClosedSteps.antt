@@ -1,10 +1,11 @@
 -- What a rule gives from terms whose indices have binders is such a sequent.
-use Rattle.std.proofs.Common.{◌≡◌, inl, inr, ℕ, zero, suc, ◌<◌, ◌≤◌, List, [], ◌∷◌, ◌++◌, Bool, true, false, ◌&&◌, ◌||◌, not, if◌then◌else◌, length, map, nat_eq, slice_get, Option, Some, None, Result, Ok, Err, codes, refl, sym, ◌∙◌, ap, subst, arith}
+use Rattle.std.proofs.Common.{◌≡◌, inl, inr, ℕ, zero, suc, ◌<◌, ◌≤◌, List, [], ◌∷◌, ◌++◌, Bool, true, false, ◌&&◌, not, if◌then◌else◌, length, map, nat_eq, slice_get, Option, Some, None, Result, Ok, Err, codes, refl, sym, ◌∙◌, ap, subst, arith}
 use Rattle.std.specs.List.{list_any}
 use Rattle.std.proofs.lemmas.Bool.Decides.{nat_tests}
+use Rattle.std.proofs.lemmas.Bool.{or_parts}
 use Rattle.lt_definitions.specs.Types.{Chars, same_name, found, TypeTree, TypeMap, bool, fun, same_type}
-use Rattle.lt_definitions.specs.Typing.{Signature, Fault, earlier, type_fault, with_ok, unless, bound_type, applied_type}
-use Rattle.lt_definitions.specs.Derivations.{fault_of, rule_fault}
+use Rattle.lt_definitions.specs.Typing.{Signature, Fault, type_fault, with_ok, unless, bound_type, applied_type}
+use Rattle.lt_definitions.specs.Derivations.{rule_fault}
 use Rattle.lt_definitions.specs.Rules.{where_holds, with_found, line_at, joined_type, predicate_over, Rule}
 use Rattle.lt_definitions.specs.declared.reason.Reason.{Reason}
 use Rattle.lt_definitions.specs.declared.reason.Reason.TheVariants.{MissingLine, NotBool, NotEquation, MiddleDiffers, TypeDiffers, VariableInHypothesis, NotRedex, NotImplication, NotForall, UnknownLabel}
@@ -14,7 +15,7 @@ use Rattle.lt_definitions.specs.Rules.{Rule, by_assume, by_weaken, by_refl, by_s
 use Rattle.lt_definitions.proofs.SameNames.{bool_cases, true-false}
 use Rattle.lt_nameless.proofs.BindingLemmas.{if-true, if-false}
 use Rattle.lt_definitions.proofs.TypingLemmas.{both-none, typed-some}
-use Rattle.lt_nameless.proofs.SameForms.{number-true}
+use Rattle.lt_definitions.proofs.RuleLemmas.{some-if}
 
 number-false : (i d : ℕ) → nat_eq i d ≡ false → i < suc d → i < d
 number-false i d e h = grind (arith, nat_tests)
@@ -73,10 +74,7 @@ lower-whole d (nameless_bound i) e w = number-false i d e w
 lower-whole d (nameless_loose x) e w = w
 lower-whole d (nameless_constant c ts) e w = tt
 lower-whole d (nameless_application f a) e w =
-    let h = neither (has_index d f) (has_index d a) e in (lower-whole d f h.0 w.0, lower-whole d a h.1 w.1) where
-      neither : (a b : Bool) → (a || b) ≡ false → (a ≡ false) × (b ≡ false)
-      neither false b e = (refl, e)
-      neither true b e = absurd (true-false e)
+    let h = or_parts (has_index d f) (has_index d a) e in (lower-whole d f h.0 w.0, lower-whole d a h.1 w.1)
 lower-whole d (nameless_abstraction ty b) e w = lower-whole (suc d) b e w
 
 -- typed terms
@@ -167,10 +165,6 @@ good-found r (Some x) f h = h x refl
 good-holds : (b : Bool) (r : Reason) (o : NamelessOutcome) → Good o → Good (where_holds b r o)
 good-holds true r o h = h
 good-holds false r o h = tt
-
-some-if : {A : Type 0} (b : Bool) (x y : A) → (if b then Some x else None) ≡ Some y → (b ≡ true) × (x ≡ y)
-some-if true x y e = (refl, let same : x ≡ y = cc e in same)
-some-if false x y e = absurd (cc e)
 
 pub equation-whole : (n : Nameless) (e : TypeTree × Nameless × Nameless) → IsWhole 0 n → nameless_as_equation n ≡ Some e → IsWhole 0 e.1 × IsWhole 0 e.2
 equation-whole (nameless_application (nameless_application (nameless_constant c (ty ∷ [])) s) t) e w q =

@@ -1,6 +1,5 @@
 -- Closing: there is one closing, up to alpha equality.
-use Rattle.std.proofs.Common.{◌≡◌, inl, inr, ℕ, suc, ◌<◌, [], ◌∷◌, Bool, true, false, ◌&&◌, ◌||◌, length, nat_eq, refl, sym, ◌∙◌, ap, arith}
-use Rattle.std.proofs.lemmas.Bool.Decides.{nat_tests}
+use Rattle.std.proofs.Common.{◌≡◌, inl, inr, ℕ, suc, ◌<◌, [], ◌∷◌, false, ◌&&◌, length, nat_eq, refl, sym, ◌∙◌, ap, arith}
 use Rattle.std.proofs.lemmas.Bool.{or_parts, or_from}
 use Rattle.lt_definitions.specs.Types.{Chars, same_name, TypeTree, same_type}
 use Rattle.lt_definitions.specs.Terms.{TermTree, free_variable, bound_name, constant, application, abstraction, has_free}
@@ -8,12 +7,12 @@ use Rattle.lt_definitions.specs.Alpha.{AreAlpha}
 use Rattle.lt_definitions.specs.Binding.{opened, replaced, Closes, longest, new_binder, closed_over}
 use Rattle.lt_nameless.specs.Nameless.{Nameless, nameless_free, nameless_bound, nameless_loose, nameless_constant, nameless_application, nameless_abstraction, nameless}
 use Rattle.lt_nameless.specs.NamelessRules.{instance_at, abstracted, nameless_has_free}
-use Rattle.lt_definitions.proofs.SameNames.{true-false, bool_cases, both-true, true-both, name-true, true-name, false-name, type-true, type-refl}
+use Rattle.lt_definitions.proofs.SameNames.{bool_cases, both-true, true-both, name-true, true-name, type-true, type-refl, longer-differs}
 use Rattle.lt_nameless.proofs.Alphas.{alpha-nameless, nameless-alpha}
 use Rattle.lt_nameless.proofs.BindingLemmas.{if-true, if-false, opened-nameless, closed-nameless, free-nameless, new_is_longer}
 use Rattle.lt_nameless.proofs.SameForms.{number-true}
 
-gone-replaced : (x : Chars) (ty : TypeTree) (n : Chars) (t : TermTree) → has_free x ty (replaced x ty (bound_name n) t) ≡ false
+pub gone-replaced : (x : Chars) (ty : TypeTree) (n : Chars) (t : TermTree) → has_free x ty (replaced x ty (bound_name n) t) ≡ false
 gone-replaced x ty n (free_variable y u) = elim (bool_cases (same_name x y && same_type ty u)) [
   | inl h ↦ ap (has_free x ty) (if-true (same_name x y && same_type ty u) (bound_name n) (free_variable y u) h)
   | inr h ↦ ap (has_free x ty) (if-false (same_name x y && same_type ty u) (bound_name n) (free_variable y u) h) ∙ h
@@ -23,9 +22,6 @@ gone-replaced x ty n (constant c ts) = refl
 gone-replaced x ty n (application f a) = or_from (has_free x ty (replaced x ty (bound_name n) f)) (has_free x ty (replaced x ty (bound_name n) a))
     (gone-replaced x ty n f) (gone-replaced x ty n a)
 gone-replaced x ty n (abstraction y u b) = gone-replaced x ty n b
-
-longer-differs : (n y : Chars) → length y < length n → same_name n y ≡ false
-longer-differs n y h = false-name n y (λ q. let l : length n ≡ length y = ap length q in absurd (omega arith))
 
 opened-back : (n x : Chars) (ty : TypeTree) (t : TermTree) → longest t < length n → opened n (free_variable x ty) (replaced x ty (bound_name n) t) ≡ t
 opened-back n x ty (free_variable y u) l = elim (bool_cases (same_name x y && same_type ty u)) [

@@ -1,11 +1,12 @@
 -- Items keep what was declared and stated before them.
 use Rattle.std.proofs.Common.{◌≡◌, ◌↔◌, inl, inr, ℕ, List, [], ◌∷◌, ◌++◌, Option, Some, None, refl, sym, ◌∙◌, ap}
+use Rattle.lt_definitions.specs.Items.{Item, type_item, const_item, axiom_item, def_item, typedef_item, lemma_item, Context, with_types, with_consts, with_statements, definition_label, definition_statement, new_type, typedef_statements, raw_type, with_typedef, with_item, context_of}
 use Rattle.lt_definitions.specs.Types.{Chars, same_name, found, TypeTree, fun}
 use Rattle.lt_definitions.specs.Terms.{TermTree}
 use Rattle.lt_definitions.specs.Typing.{typed}
 use Rattle.lt_definitions.specs.Rules.{Sequent, Rule}
 use Rattle.lt_definitions.specs.Derivations.{Derives, IsPartOf}
-use Rattle.lt_definitions.specs.Theory.{Item, type_item, const_item, axiom_item, def_item, typedef_item, lemma_item, Context, with_types, with_consts, with_statements, definition_label, definition_statement, new_type, typedef_statements, raw_type, with_typedef, with_item, Refusal, refusal, AreValid, context_of, checked_after, checked}
+use Rattle.lt_definitions.specs.Theory.{Refusal, refusal, AreValid, checked_after, checked}
 use Rattle.lt_definitions.specs.Extensions.{AreExtensions}
 use Rattle.lt_definitions.proofs.SameNames.{bool_cases}
 use Rattle.lt_nameless.proofs.BindingLemmas.{if-true, if-false}

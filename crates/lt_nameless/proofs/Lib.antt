@@ -9,6 +9,8 @@ pub mod NamelessBooleans
 pub mod Closings
 pub mod AlphaLaws
 pub mod Outcomes
+pub mod AlphaEqualLineLemmas
+pub mod AlphaSteps
 pub mod Substitutions
 pub mod TypeLaws
 pub mod Matching

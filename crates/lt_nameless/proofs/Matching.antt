@@ -1,5 +1,5 @@
 -- A type is an instance of a pattern by one map at most, and by one where it is an instance at all.
-use Rattle.std.proofs.Common.{◌≡◌, ◌⊎◌, inl, inr, List, [], ◌∷◌, ◌++◌, Bool, true, false, ◌||◌, not, if◌then◌else◌, map, unwrap_or, Some, refl, sym, ◌∙◌, ap}
+use Rattle.std.proofs.Common.{◌≡◌, ◌⊎◌, inl, inr, List, [], ◌∷◌, ◌++◌, true, false, not, if◌then◌else◌, map, unwrap_or, Some, refl, sym, ◌∙◌, ap}
 use Rattle.std.proofs.lemmas.Bool.{or_left, or_right, not_from_false, or_cases, not-true}
 use Rattle.lt_definitions.specs.Types.{Chars, same_name, has_name, names_joined, are_distinct, found, TypeTree, TypeTrees, type_variable, type_constructor, no_types, type_and, TypeMap, type_instance, types_instance, type_names, types_names, type_variables, Matches}
 use Rattle.lt_definitions.proofs.SameNames.{true-false, bool_cases, both-true, true-both, name-true, true-name, name-false, false-name}

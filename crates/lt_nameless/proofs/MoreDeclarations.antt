@@ -3,7 +3,7 @@ use Rattle.std.proofs.Common.{◌≡◌, ℕ, List, [], ◌∷◌, ◌++◌, Opt
 use Rattle.std.specs.Result.{result_unwrap_or}
 use Rattle.lt_definitions.specs.Types.{Chars, found, TypeTree, TypeTrees, type_variable, type_constructor, no_types, type_and, bool, fun, listed, row}
 use Rattle.lt_definitions.specs.Terms.{TermTree, free_variable, bound_name, constant, application, abstraction, equation, implies, falsity}
-use Rattle.lt_definitions.specs.Typing.{Signature, Fault, earlier, constructor_fault, type_fault, types_fault, typed, HasType, is_of_type}
+use Rattle.lt_definitions.specs.Typing.{Signature, Fault, constructor_fault, type_fault, types_fault, typed, HasType, is_of_type}
 use Rattle.lt_definitions.specs.Rules.{Sequent, Rule, by_assume, by_weaken, by_refl, by_abs, by_allI, by_tinst, by_beta, by_eta, by_impI, by_allE, by_inst, by_select, by_ccontr, gives, where_holds, with_found, with_line, union, without, distinct, as_forall, at_argument, beta_of, eta_of, predicate_over, selection, step}
 use Rattle.lt_definitions.specs.declared.reason.Reason.TheVariants.{NotBool, NotRedex, NotForall, TypeDiffers}
 use Rattle.lt_definitions.specs.Binding.{replaced}

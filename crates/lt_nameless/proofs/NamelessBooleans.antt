@@ -1,11 +1,11 @@
 -- Rules over nameless terms keep sequents boolean, since they are the rules over named ones.
-use Rattle.std.proofs.Common.{◌≡◌, inl, inr, suc, zero, List, [], ◌∷◌, Some, None, Result, Ok, Err, map, refl, sym, ◌∙◌, ap, subst, arith}
+use Rattle.std.proofs.Common.{◌≡◌, inl, inr, suc, zero, List, [], ◌∷◌, Some, None, Ok, Err, map, refl, sym, ◌∙◌, ap, subst, arith}
 use Rattle.std.specs.List.{All}
 use Rattle.lt_definitions.specs.Types.{Chars, same_name, TypeTree, bool, found}
 use Rattle.lt_definitions.specs.Terms.{TermTree}
-use Rattle.lt_definitions.specs.Typing.{Signature, Fault, type_fault, HasType}
-use Rattle.lt_definitions.specs.Rules.{Sequent, Rule, rule_map, by_assume, by_weaken, by_refl, by_sym, by_trans, by_cong, by_abs, by_beta, by_eta, by_eqmp, by_impI, by_mp, by_allI, by_allE, by_iff, by_inst, by_tinst, by_select, by_ccontr, by_thm, Outcome, step}
-use Rattle.lt_definitions.specs.Derivations.{fault_of, rule_fault, term_fault}
+use Rattle.lt_definitions.specs.Typing.{Signature, type_fault, HasType}
+use Rattle.lt_definitions.specs.Rules.{Sequent, Rule, rule_map, by_assume, by_weaken, by_refl, by_beta, by_eta, by_impI, by_allE, by_inst, by_select, by_ccontr, Outcome, step}
+use Rattle.lt_definitions.specs.Derivations.{rule_fault, term_fault}
 use Rattle.lt_nameless.specs.Booleans.{IsSoundSignature, IsBoolean, IsBooleanSequent}
 use Rattle.lt_nameless.specs.Nameless.{Nameless, nameless, named, NamelessSequent, nameless_sequent}
 use Rattle.lt_nameless.specs.NamelessRules.{nameless_typed, nameless_fault, nameless_rule, nameless_step, nameless_outcome, nameless_statements, IsBooleanNameless, IsBooleanNamelessSequent}

@@ -1,5 +1,5 @@
 -- Nameless terms closed over a free variable.
-use Rattle.std.proofs.Common.{◌≡◌, inl, inr, ℕ, zero, suc, ◌<◌, List, [], ◌∷◌, ◌++◌, length, Bool, true, false, ◌&&◌, ◌||◌, nat_eq, slice_get, Ok, Some, None, refl, sym, ◌∙◌, ap, arith}
+use Rattle.std.proofs.Common.{◌≡◌, inl, inr, ℕ, zero, suc, ◌<◌, List, [], ◌∷◌, ◌++◌, length, false, ◌&&◌, nat_eq, slice_get, Ok, Some, None, refl, sym, ◌∙◌, ap, arith}
 use Rattle.std.proofs.lemmas.Bool.{cases_Bool, or_parts, or_from, cond-true, cond-false}
 use Rattle.lt_definitions.specs.Types.{Chars, same_name, TypeTree, fun, same_type}
 use Rattle.lt_definitions.specs.Typing.{Signature, with_ok, unless, bound_type, applied_type, type_fault}

@@ -1,12 +1,12 @@
 -- What the rules give from lines whose sequents have the forms that they ask for.
-use Rattle.std.proofs.Common.{◌≡◌, ℕ, List, [], ◌∷◌, Bool, true, false, ◌&&◌, not, map, Option, Some, Ok, ◌∙◌, ap}
+use Rattle.std.proofs.Common.{◌≡◌, ℕ, List, [], ◌∷◌, true, false, not, map, Some, Ok, ◌∙◌, ap}
 use Rattle.std.proofs.lemmas.Bool.{and_from}
 use Rattle.std.specs.List.{list_any}
 use Rattle.lt_definitions.specs.Types.{Chars, TypeTree, bool, fun}
 use Rattle.lt_definitions.specs.Typing.{Signature}
 use Rattle.lt_definitions.specs.Rules.{line_at, joined_type}
 use Rattle.lt_nameless.specs.Nameless.{Nameless, nameless_application, nameless_abstraction, NamelessSequent}
-use Rattle.lt_nameless.specs.NamelessRules.{nameless_gives, nameless_union, nameless_without, same_nameless, nameless_has_free, nameless_has_type, nameless_equation, nameless_implies, nameless_for_all, nameless_as_equation, nameless_as_implication, nameless_as_forall, nameless_at, abstracted, nameless_replaced, nameless_instance, nameless_weaken_gives, nameless_sym_gives, nameless_trans_gives, nameless_cong_gives, nameless_abs_gives, nameless_eqmp_gives, nameless_impI_gives, nameless_mp_gives, nameless_allI_gives, nameless_allE_gives, nameless_iff_gives, nameless_inst_gives, nameless_tinst_gives, put_one}
+use Rattle.lt_nameless.specs.NamelessRules.{nameless_gives, nameless_union, nameless_without, same_nameless, nameless_has_free, nameless_has_type, nameless_equation, nameless_implies, nameless_for_all, nameless_as_equation, nameless_as_implication, nameless_as_forall, nameless_at, abstracted, nameless_replaced, nameless_weaken_gives, nameless_sym_gives, nameless_trans_gives, nameless_cong_gives, nameless_abs_gives, nameless_eqmp_gives, nameless_impI_gives, nameless_mp_gives, nameless_allI_gives, nameless_allE_gives, nameless_iff_gives, nameless_inst_gives, nameless_tinst_gives, put_one}
 use Rattle.lt_definitions.proofs.RuleLemmas.{found-on, holds-on}
 
 -- from one line

@@ -1,17 +1,17 @@
 -- A rule over named terms gives what it gives over their nameless forms.
 use Rattle.std.proofs.Common.{subst, ◌≡◌, ℕ, List, [], ◌∷◌, Bool, true, false, ◌&&◌, not, map, Option, Some, None, refl, sym, ◌∙◌, ap}
+use Rattle.std.specs.Result.{result_err}
 use Rattle.lt_definitions.specs.Types.{Chars, found, TypeTree, TypeMap, bool, fun}
 use Rattle.lt_definitions.specs.Terms.{TermTree, application, equation, implies, for_all, term_instance}
 use Rattle.lt_definitions.specs.Typing.{Signature, type_fault, earlier}
 use Rattle.lt_definitions.specs.Binding.{replaced, closed_over}
-use Rattle.lt_definitions.specs.Rules.{Sequent, Rule, by_assume, by_weaken, by_refl, by_sym, by_trans, by_cong, by_abs, by_beta, by_eta, by_eqmp, by_impI, by_mp, by_allI, by_allE, by_iff, by_inst, by_tinst, by_select, by_ccontr, by_thm, Outcome, IsAlphaEqualOutcome, gives, where_holds, with_found, with_line, with_lines, line_at, as_equation, as_implication, as_forall, at_argument, beta_of, eta_of, type_of, predicate_over, joined_type, selection, step}
+use Rattle.lt_definitions.specs.Rules.{Sequent, Rule, by_assume, by_weaken, by_refl, by_sym, by_trans, by_cong, by_abs, by_beta, by_eta, by_eqmp, by_impI, by_mp, by_allI, by_allE, by_iff, by_inst, by_tinst, by_select, by_ccontr, by_thm, Outcome, gives, where_holds, with_found, with_line, with_lines, line_at, as_equation, as_implication, as_forall, at_argument, beta_of, eta_of, type_of, predicate_over, joined_type, selection, step}
 use Rattle.lt_definitions.specs.declared.reason.Reason.{Reason}
 use Rattle.lt_definitions.specs.declared.reason.Reason.TheVariants.{MissingLine, NotEquation, TypeDiffers, NotRedex, NotImplication, NotForall, UnknownLabel}
-use Rattle.lt_definitions.specs.Derivations.{fault_of, rule_fault, term_fault}
+use Rattle.lt_definitions.specs.Derivations.{rule_fault, term_fault}
 use Rattle.lt_nameless.specs.Nameless.{Nameless, nameless, NamelessSequent, nameless_sequent}
 use Rattle.lt_nameless.specs.NamelessRules.{nameless_type_of, nameless_equation, nameless_for_all, nameless_union, NamelessOutcome, nameless_gives, nameless_outcome, nameless_statements, nameless_rule, nameless_fault, nameless_step}
 use Rattle.lt_definitions.specs.Rules.{Rule}
-use Rattle.lt_nameless.proofs.Outcomes.{outcomes_are_nameless}
 use Rattle.lt_nameless.proofs.BindingLemmas.{IsScoped, closed-nameless, replaced-nameless, instance-nameless}
 use Rattle.lt_nameless.proofs.NamelessTyping.{all_nameless, in_option, sides, both_sides, typed_side, scoped-of, typed-of, has_type-nameless, type_of-nameless, alpha-same, union-nameless, without-nameless, free-in, replaced-in, instance-in, line-nameless, found-nameless, equation-nameless, implication-nameless, forall-nameless, at-nameless, beta-nameless, eta-nameless, selection-nameless, typed-nameless}
 use Rattle.lt_definitions.proofs.TypingLemmas.{both-none}
@@ -113,18 +113,8 @@ step_is_nameless sig named done (by_ccontr p) t = through_holds _ _ _ _ _ (has_t
 step_is_nameless sig named done (by_thm l) t =
     through_found UnknownLabel (nameless []) (found l named) _ _ _ (found-nameless l named) (λ p. refl)
 
-pub step_respects_alpha : (sig : Signature) (named also_named : List (Chars × TermTree)) (done also_done : List Sequent) (line also_line : Rule TermTree)
-    → nameless_statements named ≡ nameless_statements also_named → map nameless_sequent done ≡ map nameless_sequent also_done
-    → nameless_rule line ≡ nameless_rule also_line → rule_fault sig (term_fault sig) line ≡ None → rule_fault sig (term_fault sig) also_line ≡ None
-    → IsAlphaEqualOutcome (step sig named done line) (step sig also_named also_done also_line)
-step_respects_alpha sig named also_named done also_done line also_line e f g t u =
-    (outcomes_are_nameless (step sig named done line) (step sig also_named also_done also_line)).1
-    (step_is_nameless sig named done line t
-    ∙ (λ i. nameless_step sig (e i) (f i) (g i))
-    ∙ sym (step_is_nameless sig also_named also_done also_line u))
-
 fault-nameless : (sig : Signature) (t : TermTree) → term_fault sig t ≡ nameless_fault sig (nameless [] t)
-fault-nameless sig t = ap fault_of (typed-nameless sig [] t)
+fault-nameless sig t = ap result_err (typed-nameless sig [] t)
 
 pub faults_are_nameless : (sig : Signature) (line : Rule TermTree) → rule_fault sig (term_fault sig) line ≡ rule_fault sig (nameless_fault sig) (nameless_rule line)
 faults_are_nameless sig (by_assume p) = fault-nameless sig p

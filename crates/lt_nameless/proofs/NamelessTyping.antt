@@ -1,24 +1,23 @@
 -- Types, sequents and parts of terms, and the same of their nameless forms.
-use Rattle.std.proofs.Common.{◌≡◌, inl, inr, ℕ, zero, suc, List, [], ◌∷◌, ◌++◌, Bool, true, false, ◌&&◌, ◌||◌, not, if◌then◌else◌, map, nat_eq, slice_get, Option, Some, None, Result, Ok, Err, codes, refl, sym, ◌∙◌, ap, subst, arith}
-use Rattle.std.proofs.lemmas.Bool.Decides.{nat_tests}
+use Rattle.std.proofs.Common.{◌≡◌, inl, inr, ℕ, zero, suc, List, [], ◌∷◌, ◌++◌, Bool, true, false, ◌&&◌, ◌||◌, not, if◌then◌else◌, map, slice_get, Option, Some, None, Ok, codes, refl, sym, ◌∙◌, ap, subst}
 use Rattle.std.specs.List.{list_any}
 use Rattle.std.specs.Result.{result_unwrap_or}
 use Rattle.std.proofs.lemmas.List.{map-append}
-use Rattle.lt_definitions.specs.Types.{Chars, same_name, found, TypeTree, TypeMap, bool, fun, same_type, same_types, row}
+use Rattle.lt_definitions.specs.Types.{Chars, same_name, found, TypeTree, TypeMap, bool, fun}
 use Rattle.lt_definitions.specs.Terms.{TermTree, free_variable, bound_name, constant, application, abstraction, has_free, has_loose, term_instance}
-use Rattle.lt_definitions.specs.Typing.{Signature, Fault, type_fault, with_ok, unless, bound_type, applied_type, is_of_type, has_type, typed, HasType}
+use Rattle.lt_definitions.specs.Typing.{Signature, type_fault, with_ok, unless, bound_type, applied_type, is_of_type, has_type, typed, HasType}
 use Rattle.lt_definitions.specs.Alpha.{is_alpha}
 use Rattle.lt_definitions.specs.Binding.{replaced}
 use Rattle.lt_definitions.specs.Rules.{Sequent, has_term, union, without, line_at, as_equation, as_implication, as_forall, at_argument, beta_of, eta_of, type_of, selection}
-use Rattle.lt_definitions.specs.Derivations.{fault_of, term_fault}
-use Rattle.lt_nameless.specs.Nameless.{Nameless, nameless_free, nameless_bound, nameless_loose, nameless_constant, nameless_application, nameless_abstraction, deeper, nameless_name, nameless, nameless_sequent}
+use Rattle.lt_definitions.specs.Derivations.{term_fault}
+use Rattle.lt_nameless.specs.Nameless.{Nameless, nameless_bound, nameless_loose, nameless_application, nameless_abstraction, deeper, nameless_name, nameless, nameless_sequent}
 use Rattle.lt_nameless.specs.NamelessRules.{nameless_replaced, nameless_instance, nameless_has_free, has_index, same_nameless, nameless_typed, nameless_has_type, nameless_type_of, nameless_as_equation, nameless_as_implication, nameless_as_forall, nameless_at, nameless_beta, nameless_eta, nameless_union, nameless_without, nameless_selection, nameless_statements}
-use Rattle.lt_definitions.proofs.SameNames.{true-false, bool_cases, both-true, true-both, name-true, true-name, name-false, false-name, type-true, true-type, row-true, true-row}
+use Rattle.lt_definitions.proofs.SameNames.{true-false, bool_cases, name-true, true-name, name-false, false-name}
 use Rattle.lt_nameless.proofs.Alphas.{name-hit, name-miss, IsPlace, place, alpha-nameless, nameless-alpha, alpha-is, is-alpha as alpha-tested}
 use Rattle.lt_nameless.proofs.Typings.{typed-has}
 use Rattle.lt_nameless.proofs.BindingLemmas.{if-true, if-false, IsScoped, opened-nameless, replaced-nameless, instance-nameless, free-nameless, loose-nameless, not-loose}
 use Rattle.lt_definitions.proofs.TypingLemmas.{typed-some}
-use Rattle.lt_nameless.proofs.SameForms.{number-true, same-is, same-refl}
+use Rattle.lt_nameless.proofs.SameForms.{same-is, same-refl}
 
 abbrev names : List (Chars × TypeTree) → List Chars
 names env = map (λ p. p.0) env

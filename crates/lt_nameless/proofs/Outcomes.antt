@@ -7,7 +7,7 @@ use Rattle.lt_nameless.specs.Nameless.{nameless, NamelessSequent, nameless_seque
 use Rattle.lt_nameless.specs.NamelessRules.{NamelessOutcome, nameless_gives, nameless_outcome}
 use Rattle.lt_nameless.proofs.Alphas.{alpha-nameless, nameless-alpha}
 
-equal-forms : (hs ks : List TermTree) → AreAlphaEqual hs ks → map (nameless []) hs ≡ map (nameless []) ks
+pub equal-forms : (hs ks : List TermTree) → AreAlphaEqual hs ks → map (nameless []) hs ≡ map (nameless []) ks
 equal-forms [] [] h = refl
 equal-forms (s ∷ hs) (t ∷ ks) h = λ i. alpha-nameless [] s t h.0 i ∷ equal-forms hs ks h.1 i
 equal-forms hs ks h = absurd h

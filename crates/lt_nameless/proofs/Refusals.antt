@@ -1,14 +1,16 @@
 -- No refusal means a valid extension.
-use Rattle.std.proofs.Common.{◌≡◌, ◌≢◌, ◌↔◌, ◌⊎◌, inl, inr, ℕ, List, [], ◌∷◌, ◌++◌, Bool, true, false, ◌&&◌, ◌||◌, not, if◌then◌else◌, Option, Some, None, is_some, is_none, Result, Ok, Err, codes, refl, sym, ◌∙◌, ap, subst}
+use Rattle.std.proofs.Common.{◌≡◌, ◌↔◌, inl, inr, ℕ, List, [], ◌∷◌, ◌++◌, Bool, true, false, ◌&&◌, not, if◌then◌else◌, Option, Some, None, is_some, is_none, Result, Ok, Err, codes, refl, sym, ◌∙◌, ap, subst}
 use Rattle.std.specs.List.{find}
-use Rattle.std.proofs.lemmas.Bool.{not-false}
-use Rattle.lt_definitions.specs.Types.{Chars, same_name, has_name, found, TypeTree, type_constructor, no_types, type_and, bool, fun, same_type, type_variables}
+use Rattle.std.specs.Result.{result_err}
+use Rattle.std.proofs.lemmas.Bool.{not-false, or_cases, or_left, or_right}
+use Rattle.lt_definitions.specs.Items.{Item, type_item, const_item, axiom_item, def_item, typedef_item, lemma_item, Context, definition_label, rep_label, rep_inverse_label, abs_inverse_label, raw_type}
+use Rattle.lt_definitions.specs.Types.{Chars, same_name, has_name, found, TypeTree, type_constructor, no_types, type_and, bool, fun, same_type, type_variables, are_distinct}
 use Rattle.lt_definitions.specs.Terms.{TermTree, application, is_closed, term_variables}
 use Rattle.lt_definitions.specs.Typing.{Fault, mismatch, type_fault, typed}
 use Rattle.lt_definitions.specs.Alpha.{AreAlpha, is_alpha}
 use Rattle.lt_definitions.specs.Rules.{Sequent, Rule}
-use Rattle.lt_definitions.specs.Derivations.{Derives, LineFault, ill_typed, no_step, derived}
-use Rattle.lt_definitions.specs.Theory.{Item, type_item, const_item, axiom_item, def_item, typedef_item, lemma_item, Context, definition_label, rep_label, rep_inverse_label, abs_inverse_label, raw_type, Refusal, at_fault, not_boolean, unknown_statement, duplicate, open_term, typedef_shape, not_proved, first_of, refused_where, fault_test, typed_test, boolean_test, new_name, label_test, closed_test, loose_in, variables_test, stated_type_test, are_distinct, is_applied, shape_test, last_of, has_none, is_proved, proof_test, refusal}
+use Rattle.lt_definitions.specs.Derivations.{Derives, LineFault, ill_typed, no_step, term_fault, derived}
+use Rattle.lt_definitions.specs.Theory.{Refusal, at_fault, not_boolean, unknown_statement, duplicate, open_term, typedef_shape, not_proved, first_of, refused_where, fault_test, boolean_test, new_name, label_test, closed_test, loose_in, variables_test, stated_type_test, is_applied, shape_test, last_of, has_none, is_proved, proof_test, refusal}
 use Rattle.lt_definitions.specs.Extensions.{IsNew, AreNamesAmong, IsStatement, Proves, IsInhabited, IsTypedef, IsDefinition, IsExtension}
 use Rattle.lt_definitions.proofs.SameNames.{true-false, bool_cases, both-true, true-both, name-true, true-name, name-false, false-name, type-true, type-refl}
 use Rattle.lt_nameless.proofs.Alphas.{alpha-is, is-alpha as alpha-tested}
@@ -58,12 +60,12 @@ none-fault : (o : Option Fault) → o ≡ None → fault_test o ≡ None
 none-fault None e = refl
 none-fault (Some f) e = absurd (cc e)
 
-typed-none : (r : Result TypeTree Fault) → typed_test r ≡ None → (ty : TypeTree) × (r ≡ Ok ty)
+typed-none : (r : Result TypeTree Fault) → fault_test (result_err r) ≡ None → (ty : TypeTree) × (r ≡ Ok ty)
 typed-none (Ok ty) e = (ty, refl)
 typed-none (Err f) e = absurd (cc e)
 
-none-typed : (r : Result TypeTree Fault) (ty : TypeTree) → r ≡ Ok ty → typed_test r ≡ None
-none-typed r ty e = ap typed_test e
+none-typed : (r : Result TypeTree Fault) (ty : TypeTree) → r ≡ Ok ty → fault_test (result_err r) ≡ None
+none-typed r ty e = ap (λ v. fault_test (result_err v)) e
 
 boolean-none : (r : Result TypeTree Fault) → boolean_test r ≡ None → r ≡ Ok bool
 boolean-none (Ok ty) e = elim (bool_cases (same_type ty bool)) [
@@ -96,28 +98,18 @@ loose-none (Some a) e = absurd (cc e)
 find-none : (xs ys : List Chars) → find (λ a. not (has_name a ys)) xs ≡ None → AreNamesAmong xs ys
 find-none [] ys e a h = absurd (true-false (sym h))
 find-none (x ∷ xs) ys e a h = elim (bool_cases (has_name x ys)) [
-  | inl t ↦ elim (either (same_name a x) (has_name a xs) h) [
+  | inl t ↦ elim (or_cases (same_name a x) (has_name a xs) h) [
     | inl k ↦ subst (λ (b : Chars). has_name b ys ≡ true) (sym (name-true a x k)) t
     | inr k ↦ find-none xs ys (sym (ap (λ v. if not v then Some x else find (λ a. not (has_name a ys)) xs) t) ∙ e) a k
   ]
   | inr f ↦ let some : Some x ≡ None = sym (ap (λ v. if not v then Some x else find (λ a. not (has_name a ys)) xs) f) ∙ e in absurd (cc some)
-] where
-  either : (a b : Bool) → (a || b) ≡ true → (a ≡ true) ⊎ (b ≡ true)
-  either true b e = inl refl
-  either false b e = inr e
+]
 
 none-find : (xs ys : List Chars) → AreNamesAmong xs ys → find (λ a. not (has_name a ys)) xs ≡ None
 none-find [] ys h = refl
 none-find (x ∷ xs) ys h =
-    ap (λ v. if not v then Some x else find (λ a. not (has_name a ys)) xs) (h x (here (same_name x x) (has_name x xs) (true-name x x refl)))
-    ∙ none-find xs ys (λ a k. h a (there (same_name a x) (has_name a xs) k)) where
-      here : (a b : Bool) → a ≡ true → (a || b) ≡ true
-      here true b e = refl
-      here false b e = absurd (true-false (sym e))
-
-      there : (a b : Bool) → b ≡ true → (a || b) ≡ true
-      there true b e = refl
-      there false b e = e
+    ap (λ v. if not v then Some x else find (λ a. not (has_name a ys)) xs) (h x (or_left (same_name x x) (has_name x xs) (true-name x x refl)))
+    ∙ none-find xs ys (λ a k. h a (or_right (same_name a x) (has_name a xs) k))
 
 variables-is : (allowed : List Chars) (t : TermTree) → variables_test allowed t ≡ None → AreNamesAmong (term_variables t) allowed
 variables-is allowed t e = find-none (term_variables t) allowed (loose-none (find (λ a. not (has_name a allowed)) (term_variables t)) e)
@@ -139,7 +131,7 @@ definition-is : (ctx : Context) (n : Chars) (ty : TypeTree) (body : TermTree) �
 definition-is ctx n ty body e =
     let r : Result TypeTree Fault = typed ctx.signature [] body in
     let h1 = head-none (fault_test (type_fault ctx.signature ty)) _ e in
-    let h2 = head-none (typed_test (typed ctx.signature [] body)) _ h1.1 in
+    let h2 = head-none (fault_test (term_fault ctx.signature body)) _ h1.1 in
     let h3 = head-none (new_name ctx.signature.consts n) _ h2.1 in
     let h4 = head-none (new_name ctx.statements (definition_label n)) _ h3.1 in
     let h5 = head-none (stated_type_test ty (typed ctx.signature [] body)) _ h4.1 in
@@ -159,7 +151,7 @@ is-definition : (ctx : Context) (n : Chars) (ty : TypeTree) (body : TermTree) �
 is-definition ctx n ty body d =
     let t : typed ctx.signature [] body ≡ Ok ty = has-typed ctx.signature [] body ty d.typed in
     none-head (fault_test (type_fault ctx.signature ty)) _ (none-fault (type_fault ctx.signature ty) d.sound)
-    (none-head (typed_test (typed ctx.signature [] body)) _ (none-typed (typed ctx.signature [] body) ty t)
+    (none-head (fault_test (term_fault ctx.signature body)) _ (none-typed (typed ctx.signature [] body) ty t)
     (none-head (new_name ctx.signature.consts n) _ (is-new ctx.signature.consts n d.new_const)
     (none-head (new_name ctx.statements (definition_label n)) _ (is-new ctx.statements (definition_label n) d.new_label)
     (none-head (stated_type_test ty (typed ctx.signature [] body)) _ (is-stated ty (typed ctx.signature [] body) t)
@@ -182,24 +174,16 @@ applied-is : (ctx : Context) (p : TermTree) (l : Chars) (o : Option TermTree) �
 applied-is ctx p l (Some (application q t)) e h = record { head = q; witness = t; named = e; same = alpha-is [] p q h }
 applied-is ctx p l o e h = absurd (true-false (sym h))
 
-name-apart : (a b : Chars) (pairs : List (Chars × TypeTree)) → IsNew a ((b, bool) ∷ pairs) → (a ≢ b) × IsNew a pairs
-name-apart a b pairs e = elim (bool_cases (same_name a b)) [
-  | inl h ↦ let some : Some bool ≡ None = sym (if-true (same_name a b) (Some bool) (found a pairs) h) ∙ e in absurd (cc some)
-  | inr h ↦ (name-false a b h, sym (if-false (same_name a b) (Some bool) (found a pairs) h) ∙ e)
-]
-
-apart-name : (a b : Chars) (pairs : List (Chars × TypeTree)) → a ≢ b → IsNew a pairs → IsNew a ((b, bool) ∷ pairs)
-apart-name a b pairs n e = if-false (same_name a b) (Some bool) (found a pairs) (false-name a b n) ∙ e
-
 typedef-is : (ctx : Context) (n : Chars) (params : List Chars) (p : TermTree) (l a b : Chars)
     → refusal ctx (typedef_item n params p l a b) ≡ None → IsTypedef ctx n params p l a b
 typedef-is ctx n params p l a b e =
-    let h1 = head-none (typed_test (typed ctx.signature [] p)) _ e in
+    let h1 = head-none (fault_test (term_fault ctx.signature p)) _ e in
     let h2 = head-none (label_test ctx l) _ h1.1 in
     let h3 = head-none (new_name ctx.signature.types n) _ h2.1 in
     let h4 = head-none (new_name ctx.signature.consts b) _ h3.1 in
-    let h5 = head-none (new_name ((b, bool) ∷ ctx.signature.consts) a) _ h4.1 in
-    let h6 = head-none (new_name ctx.statements (rep_label n)) _ h5.1 in
+    let h5 = head-none (new_name ctx.signature.consts a) _ h4.1 in
+    let apart = head-none (refused_where (same_name a b) (duplicate a)) _ h5.1 in
+    let h6 = head-none (new_name ctx.statements (rep_label n)) _ apart.1 in
     let h7 = head-none (new_name ctx.statements (rep_inverse_label n)) _ h6.1 in
     let h8 = head-none (new_name ctx.statements (abs_inverse_label n)) _ h7.1 in
     let h9 = head-none (closed_test p) _ h8.1 in
@@ -210,7 +194,6 @@ typedef-is ctx n params p l a b e =
     let s1 = both-true (are_distinct params && is_some (raw_type (typed ctx.signature [] p))) (is_applied p (found l ctx.statements)) shape in
     let s2 = both-true (are_distinct params) (is_some (raw_type (typed ctx.signature [] p))) s1.0 in
     let raw = raw-is (typed ctx.signature [] p) s2.1 in
-    let apart = name-apart a b ctx.signature.consts (new-is ((b, bool) ∷ ctx.signature.consts) a h5.0) in
     record {
       raw = raw.0;
       predicate = typed-has ctx.signature [] p (fun raw.0 bool) raw.1;
@@ -220,8 +203,8 @@ typedef-is ctx n params p l a b e =
       inhabited = applied-is ctx p l (found l ctx.statements) refl s1.1;
       new_type = new-is ctx.signature.types n h3.0;
       new_rep = new-is ctx.signature.consts b h4.0;
-      new_abs = apart.1;
-      two = apart.0;
+      new_abs = new-is ctx.signature.consts a h5.0;
+      two = name-false a b (where-none (same_name a b) (duplicate a) apart.0);
       rep = new-is ctx.statements (rep_label n) h6.0;
       rep_inverse = new-is ctx.statements (rep_inverse_label n) h7.0;
       abs_inverse = new-is ctx.statements (abs_inverse_label n) h8.0;
@@ -235,18 +218,19 @@ is-typedef ctx n params p l a b d =
     let there : is_applied p (found l ctx.statements) ≡ true = ap (is_applied p) d.inhabited.named ∙ alpha-tested [] p d.inhabited.head d.inhabited.same in
     let shape = true-both (are_distinct params && is_some (raw_type (typed ctx.signature [] p))) (is_applied p (found l ctx.statements))
     (true-both (are_distinct params) (is_some (raw_type (typed ctx.signature [] p))) d.distinct some) there in
-    none-head (typed_test (typed ctx.signature [] p)) _ (none-typed (typed ctx.signature [] p) (fun d.raw bool) t)
+    none-head (fault_test (term_fault ctx.signature p)) _ (none-typed (typed ctx.signature [] p) (fun d.raw bool) t)
     (none-head (label_test ctx l) _ (none-where (is_none (found l ctx.statements)) (unknown_statement l) (ap is_none d.inhabited.named))
     (none-head (new_name ctx.signature.types n) _ (is-new ctx.signature.types n d.new_type)
     (none-head (new_name ctx.signature.consts b) _ (is-new ctx.signature.consts b d.new_rep)
-    (none-head (new_name ((b, bool) ∷ ctx.signature.consts) a) _ (is-new ((b, bool) ∷ ctx.signature.consts) a (apart-name a b ctx.signature.consts d.two d.new_abs))
+    (none-head (new_name ctx.signature.consts a) _ (is-new ctx.signature.consts a d.new_abs)
+    (none-head (refused_where (same_name a b) (duplicate a)) _ (none-where (same_name a b) (duplicate a) (false-name a b d.two))
     (none-head (new_name ctx.statements (rep_label n)) _ (is-new ctx.statements (rep_label n) d.rep)
     (none-head (new_name ctx.statements (rep_inverse_label n)) _ (is-new ctx.statements (rep_inverse_label n) d.rep_inverse)
     (none-head (new_name ctx.statements (abs_inverse_label n)) _ (is-new ctx.statements (abs_inverse_label n) d.abs_inverse)
     (none-head (closed_test p) _ (none-closed p d.closed)
     (none-head (variables_test params p) _ (is-variables params p d.variables)
     (none-head (shape_test ctx params p l) _ (none-where (not (are_distinct params && is_some (raw_type (typed ctx.signature [] p)) && is_applied p (found l ctx.statements))) typedef_shape
-    (false-not (are_distinct params && is_some (raw_type (typed ctx.signature [] p)) && is_applied p (found l ctx.statements)) shape)) refl))))))))))
+    (false-not (are_distinct params && is_some (raw_type (typed ctx.signature [] p)) && is_applied p (found l ctx.statements)) shape)) refl)))))))))))
 
 -- lemmas
 

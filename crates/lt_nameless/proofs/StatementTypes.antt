@@ -3,11 +3,12 @@ use Rattle.std.proofs.Common.{◌≡◌, ◌⊎◌, inl, inr, ℕ, suc, List, []
 use Rattle.std.specs.List.{zip}
 use Rattle.std.proofs.lemmas.List.{length-map}
 use Rattle.std.proofs.lemmas.Bool.Decides.{nat_tests}
+use Rattle.lt_definitions.specs.Items.{Item, type_item, const_item, axiom_item, def_item, typedef_item, lemma_item, Context, empty, with_types, with_consts, with_statements, declared, definition_label, definition_statement, new_type, rep_label, rep_inverse_label, abs_inverse_label, rep_statement, rep_inverse_statement, abs_inverse_statement, typedef_statements, raw_type, with_typedef, with_item, context_of}
 use Rattle.lt_definitions.specs.Types.{Chars, same_name, found, TypeTree, TypeTrees, TypeMap, type_variable, type_constructor, no_types, type_and, bool, fun, listed, row, same_type, type_variables, type_instance, types_instance}
 use Rattle.lt_definitions.specs.Terms.{TermTree, free_variable, bound_name, constant, application, abstraction, equation, implies, for_all}
-use Rattle.lt_definitions.specs.Typing.{Signature, built_in, Fault, earlier, constructor_fault, type_fault, types_fault, typed, HasType}
+use Rattle.lt_definitions.specs.Typing.{Signature, built_in, constructor_fault, type_fault, types_fault, typed, HasType}
 use Rattle.lt_definitions.specs.Derivations.{IsPartOf}
-use Rattle.lt_definitions.specs.Theory.{Item, type_item, const_item, axiom_item, def_item, typedef_item, lemma_item, Context, empty, with_types, with_consts, with_statements, declared, definition_label, definition_statement, new_type, rep_label, rep_inverse_label, abs_inverse_label, rep_statement, rep_inverse_statement, abs_inverse_statement, typedef_statements, raw_type, with_typedef, with_item, refusal, AreValid, IsPlainTheory, context_of}
+use Rattle.lt_definitions.specs.Theory.{refusal, AreValid, IsPlainTheory}
 use Rattle.lt_definitions.specs.Extensions.{IsStatement, IsTypedef, IsDefinition}
 use Rattle.lt_definitions.proofs.SameNames.{bool_cases, name-true, true-name, false-name, listed-row}
 use Rattle.lt_nameless.proofs.Typings.{has-typed}

@@ -1,5 +1,5 @@
 -- Opening, closing, replacing and type instances keep types.
-use Rattle.std.proofs.Common.{◌≡◌, ◌⊎◌, inl, inr, ◌<◌, List, [], ◌∷◌, ◌++◌, Bool, true, false, ◌&&◌, ◌||◌, not, if◌then◌else◌, Some, None, unwrap_or, length, map, refl, sym, ◌∙◌, ap, subst, arith}
+use Rattle.std.proofs.Common.{◌≡◌, inl, inr, ◌<◌, List, [], ◌∷◌, ◌++◌, true, false, ◌&&◌, not, if◌then◌else◌, Some, None, unwrap_or, length, map, refl, sym, ◌∙◌, ap, subst, arith}
 use Rattle.std.specs.List.{zip}
 use Rattle.std.proofs.lemmas.List.{length-map}
 use Rattle.std.proofs.lemmas.Bool.{or_parts, or_left, or_right, or_cases}
@@ -7,7 +7,7 @@ use Rattle.lt_definitions.specs.Types.{Chars, same_name, has_name, names_joined,
 use Rattle.lt_definitions.specs.Terms.{TermTree, free_variable, bound_name, constant, application, abstraction, has_loose, term_instance}
 use Rattle.lt_definitions.specs.Typing.{Signature, type_fault, types_fault, HasType}
 use Rattle.lt_definitions.specs.Binding.{opened, replaced, longest, new_binder, closed_over}
-use Rattle.lt_definitions.proofs.SameNames.{true-false, bool_cases, both-true, name-true, true-name, name-false, false-name, type-true}
+use Rattle.lt_definitions.proofs.SameNames.{true-false, bool_cases, both-true, name-true, true-name, name-false, false-name, type-true, longer-differs}
 use Rattle.lt_nameless.proofs.BindingLemmas.{if-true, if-false, new_is_longer}
 use Rattle.lt_nameless.proofs.LaterItems.{found-append}
 use Rattle.lt_nameless.proofs.StatementTypes.{found-new, found-first, more-binders, instance-sound, instances-sound}
@@ -121,9 +121,6 @@ replaced-has sig env x u by (application f a) ty k h =
 replaced-has sig env x u by (abstraction y w b) ty k h = (h.0, h.1, replaced-has sig ((y, w) ∷ env) x u by b h.0 k h.2, h.3)
 
 -- closing
-
-longer-differs : (x y : Chars) → length y < length x → same_name x y ≡ false
-longer-differs x y h = false-name x y (λ q. let l : length x ≡ length y = ap length q in absurd (omega arith))
 
 closed-body : (sig : Signature) (env : Env) (n x : Chars) (u : TypeTree) (t : TermTree) (ty : TypeTree) → longest t < length n → found n env ≡ None
     → HasType sig env t ty → HasType sig (env ++ (n, u) ∷ []) (replaced x u (bound_name n) t) ty

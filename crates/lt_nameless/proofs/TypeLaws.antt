@@ -1,5 +1,5 @@
 -- What opening, closing, replacing and type instances do to types, and what typed terms are.
-use Rattle.std.proofs.Common.{◌≡◌, inl, inr, List, [], ◌∷◌, Bool, true, false, ◌&&◌, ◌||◌, not, map, Some, None, refl, sym, ◌∙◌, ap, subst}
+use Rattle.std.proofs.Common.{◌≡◌, inl, inr, List, [], ◌∷◌, false, ◌&&◌, not, map, Some, None, refl, sym, ◌∙◌, ap, subst}
 use Rattle.std.specs.List.{zip}
 use Rattle.std.proofs.lemmas.Bool.{or_from}
 use Rattle.lt_definitions.specs.Types.{Chars, same_name, found, TypeTree, TypeMap, fun, row, type_instance}
@@ -7,7 +7,7 @@ use Rattle.lt_definitions.specs.Terms.{TermTree, free_variable, bound_name, cons
 use Rattle.lt_definitions.specs.Typing.{Signature, type_fault, types_fault, HasType}
 use Rattle.lt_definitions.specs.Binding.{opened, replaced, Closes, closed_over}
 use Rattle.lt_nameless.specs.Booleans.{IsSoundSignature}
-use Rattle.lt_definitions.proofs.SameNames.{true-false, bool_cases, name-true}
+use Rattle.lt_definitions.proofs.SameNames.{bool_cases, name-true}
 use Rattle.lt_nameless.proofs.BindingLemmas.{if-false}
 use Rattle.lt_nameless.proofs.Typings.{typed-has, has-typed}
 use Rattle.lt_nameless.proofs.Closings.{closings_are_alpha}

@@ -6,10 +6,10 @@ use Rattle.lt_definitions.specs.Terms.{TermTree, free_variable, bound_name, cons
 use Rattle.lt_definitions.specs.Typing.{Signature, Fault, type_args, mismatch, type_fault, types_fault, with_ok, unless, at_types, constant_type, applied_type, bound_type, typed, HasType}
 use Rattle.lt_definitions.proofs.SameNames.{both-true, name-true, type-true, type-refl}
 
-abbrev ok_type : TypeTree → Result TypeTree Fault
+abbrev pub ok_type : TypeTree → Result TypeTree Fault
 ok_type t = Ok t
 
-ok-inj : (x y : TypeTree) → ok_type x ≡ ok_type y → x ≡ y
+pub ok-inj : (x y : TypeTree) → ok_type x ≡ ok_type y → x ≡ y
 ok-inj x y e = cc e
 
 unless-ok : {A : Type 0} (o : Option Fault) (r : Result A Fault) (x : A) → unless o r ≡ Ok x → (o ≡ None) × (r ≡ Ok x)

@@ -1,4 +1,5 @@
 -- Sequents of boolean terms, and the signatures over which each rule keeps them so.
+-- Source: this project's own.
 use Rattle.std.specs.Prelude.{◌≡◌, List, [], Some, None}
 use Rattle.std.specs.List.{All}
 use Rattle.lt_definitions.specs.Types.{Chars, TypeTree, bool, found}
@@ -23,4 +24,5 @@ pub record IsBooleanSequent (sig : Signature) (s : Sequent) : Type 0 where
 
 -- each named statement is boolean
 abbrev pub AreBooleanStatements : Signature → List (Chars × TermTree) → Type 0
-AreBooleanStatements sig named = (l : Chars) (p : TermTree) → found l named ≡ Some p → IsBoolean sig p
+AreBooleanStatements sig named =
+    (l : Chars) (p : TermTree) → found l named ≡ Some p → IsBoolean sig p

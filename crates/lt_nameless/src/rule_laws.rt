@@ -1,5 +1,5 @@
 //! Laws of the rules and of derivations. Each function does nothing: its contract is the law.
-ghost use Rattle.std.specs.Prelude.{◌≡◌, ◌↔◌, List, [], Ok, None, map};
+ghost use Rattle.std.specs.Prelude.{◌≡◌, ◌↔◌, List, [], Ok, None};
 ghost use Rattle.std.specs.List.{All};
 ghost use Rattle.lt_definitions.specs.Types.{Chars};
 ghost use Rattle.lt_definitions.specs.Terms.{TermTree};
@@ -7,8 +7,7 @@ ghost use Rattle.lt_definitions.specs.Typing.{Signature};
 ghost use Rattle.lt_definitions.specs.Rules.{Sequent, Rule, IsAlphaEqualOutcome, step};
 ghost use Rattle.lt_definitions.specs.Derivations.{Derives, AreOnce, AreAmong, rule_fault, derived, IsPartOf, term_fault};
 ghost use Rattle.lt_nameless.specs.Booleans.{IsSoundSignature, IsBooleanSequent, AreBooleanStatements};
-ghost use Rattle.lt_nameless.specs.Nameless.{nameless_sequent};
-ghost use Rattle.lt_nameless.specs.NamelessRules.{nameless_statements, nameless_rule};
+ghost use Rattle.lt_nameless.specs.AlphaEqualLines.{AreAlphaEqualSequents, AreAlphaEqualStatements, AreAlphaEqualLines};
 ghost use Rattle.lt_definitions.specs.Items.{Context, Item, context_of};
 
 /// Each rule gives a sequent of boolean terms from sequents of boolean terms and boolean statements.
@@ -25,11 +24,11 @@ pub fn derivations_keep_booleans()
         → Derives sig named done lines ss → All (IsBooleanSequent sig) ss }
 {}
 
-/// Statements, lines and arguments that are alpha-equal, so have the same nameless forms, give alpha-equal sequents or the same reason.
+/// Alpha-equal statements, earlier lines and rules give alpha-equal sequents or the same reason.
 pub fn step_respects_alpha()
-    ensures { (sig : Signature) (named also_named : List (Chars × TermTree)) (done also_done : List Sequent) (line also_line : Rule TermTree)
-        → nameless_statements named ≡ nameless_statements also_named → map nameless_sequent done ≡ map nameless_sequent also_done
-        → nameless_rule line ≡ nameless_rule also_line → rule_fault sig (term_fault sig) line ≡ None → rule_fault sig (term_fault sig) also_line ≡ None
+    ensures { (sig : Signature) (named also_named : List (Chars × TermTree)) (done also_done : List Sequent)
+        → (line also_line : Rule TermTree) → AreAlphaEqualStatements named also_named → AreAlphaEqualSequents done also_done
+        → AreAlphaEqualLines line also_line → rule_fault sig (term_fault sig) line ≡ None
         → IsAlphaEqualOutcome (step sig named done line) (step sig also_named also_done also_line) }
 {}
 

@@ -1,9 +1,10 @@
 -- What stands between tokens: white space and comments.
+-- Source: this project's own.
 use Rattle.std.specs.Prelude.{◌≡◌, ℕ, ◌==◌, ◌||◌, Bool, not, true, List, [], ◌∷◌, ◌++◌}
 use Rattle.std.specs.List.{list_all}
 use Rattle.lt_definitions.specs.Characters.{is_white}
 
--- a white character, or a comment by its characters behind the number sign
+-- a white character, or a comment by its characters behind the number sign (35)
 pub data Blank : Type 0 where
   white : ℕ → Blank
   comment : List ℕ → Blank
@@ -14,7 +15,7 @@ with_gap [] rest = rest
 with_gap (white c ∷ parts) rest = c ∷ with_gap parts rest
 with_gap (comment cs ∷ parts) rest = 35 ∷ cs ++ with_gap parts rest
 
--- the text is at a line's end or its own
+-- the text is at a line's end (a line feed is 10) or its own
 abbrev pub ends_line : List ℕ → Bool
 ends_line [] = true
 ends_line (c ∷ cs) = c == 10
@@ -24,6 +25,7 @@ abbrev pub MayStand : Blank → List ℕ → Type 0
 MayStand (white c) later = is_white c ≡ true
 MayStand (comment cs) later = (list_all (λ c. not (c == 10)) cs ≡ true) × (ends_line later ≡ true)
 
+-- Each part may stand before those behind it and the rest.
 abbrev pub IsGap : List Blank → List ℕ → Type 0
 IsGap [] rest = Unit {0}
 IsGap (b ∷ parts) rest = MayStand b (with_gap parts rest) × IsGap parts rest

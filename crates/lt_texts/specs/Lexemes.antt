@@ -1,4 +1,5 @@
--- What the tokens of a text are to a grammar, and which of them stand from one place of a text to another.
+-- What the tokens of a text are to a grammar, and which of them stand from one place of a text to
+-- another.
 -- Source: this project's own.
 use Rattle.std.specs.Prelude.{◌≡◌, ℕ, List, [], ◌∷◌, Option, drop}
 use Rattle.lt_texts.specs.declared.lexical.Token.{Token as Placed}
@@ -9,7 +10,8 @@ use Rattle.lt_definitions.specs.Types.{Chars}
 use Rattle.lt_definitions.specs.Characters.{number_of}
 use Rattle.lt_texts.specs.Texts.{Left, left_of, lexed, after, spelling}
 
--- A lexeme: a name, a type variable by its name, a number by its value where that is at most 2^32 - 1, or a sign.
+-- A lexeme: a name, a type variable by its name, a number by its value where that is at most
+-- 2^32 - 1, or a sign.
 pub data Lexeme : Type 0 where
   a_name : Chars → Lexeme
   a_variable : Chars → Lexeme
@@ -34,6 +36,6 @@ abbrev pub Spans : Left → List Lexeme → Left → Type 0
 Spans s [] s' = s' ≡ s
 Spans s (w ∷ ws) s' = IsNextLexeme s w × Spans (after s) ws s'
 
--- the text is these lexemes, and nothing in it is no token
+-- the text is these lexemes from its begin to its end
 abbrev pub HasLexemes : List ℕ → List Lexeme → Type 0
 HasLexemes text ws = (s : Left) × Spans (left_of text) ws s × (lexed s ≡ End)

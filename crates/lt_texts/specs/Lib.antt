@@ -1,4 +1,5 @@
--- The definitions, in the order in which they are read.
+-- The definitions, in the order in which they are read: from characters to tokens, to lexemes, to
+-- items, to the walk.
 pub mod Tokens
 pub mod Spelling
 pub mod Gaps

@@ -1,4 +1,5 @@
--- Tokens as slices of a text.
+-- Tokens as slices of a text, for contracts of what reads one.
+-- Source: this project's own.
 use Rattle.std.specs.Prelude.{◌≡◌, ℕ, ◌<◌, ◌≤◌, true, List, ◌++◌, length, slice_range, chars, IsUtf8}
 use Rattle.lt_texts.specs.declared.lexical.TokenKind.{TokenKind}
 use Rattle.lt_texts.specs.declared.lexical.Token.{Token}
@@ -17,7 +18,8 @@ pub record IsSlice (source : List ℕ) (t : Token) : Type 0 where
   pub within : t.to ≤ length source
   pub utf8 : IsUtf8 (bytes_of source t)
 
--- the token that was read on the way from one state to the next: it stands in order, and its bytes are its spelling
+-- the token that was read on the way from one state to the next: it stands in order, and its bytes
+-- are its spelling
 pub record IsRead (s s' : Left) (t : Token) : Type 0 where
   pub source : s'.source ≡ s.source
   pub behind : here s ≤ t.from
@@ -43,6 +45,7 @@ OnNone (BadChar n) P = P
 
 -- what stands next is this word, and the rest is behind it
 pub record IsNext (s : Left) (kind : TokenKind) (word rest : List ℕ) : Type 0 where
-  pub token : lexed s ≡ one (record { kind = kind; from = place_of s (word ++ rest); to = place_of s rest })
+  pub token : lexed s
+      ≡ one (record { kind = kind; from = place_of s (word ++ rest); to = place_of s rest })
   pub spelling : spelling s ≡ word
   pub after : after s ≡ record s { ahead = rest }

@@ -1,4 +1,5 @@
 -- What stands next in a text that is read from its begin.
+-- Source: this project's own.
 use Rattle.std.specs.Prelude.{ℕ, ◌-◌, ◌==◌, false, List, [], ◌∷◌, length, take, Option, Some, None, if◌then◌else◌, encode_utf8_all}
 use Rattle.std.specs.Str.{chars}
 use Rattle.std.specs.Str.Lossy.{utf8_valid_len}
@@ -7,7 +8,8 @@ use Rattle.lt_texts.specs.declared.lexical.Lexed.TheVariants.{Token, End, BadByt
 use Rattle.lt_definitions.specs.Characters.{behind_gap}
 use Rattle.lt_texts.specs.Tokens.{Scanned, token_at}
 
--- a text in reading: its bytes, and the characters that are still ahead, up to its end or its first byte that is no UTF-8
+-- a text in reading: its bytes, and the characters that are still ahead, up to its end or its first
+-- byte that is no UTF-8
 pub record Left : Type 0 where
   pub source : List ℕ
   pub ahead : List ℕ
@@ -39,8 +41,10 @@ ending s = if end_of s == length s.source then End else BadByte (end_of s)
 -- where these characters are left
 abbrev pub lexed_by : Left → List ℕ → Option Scanned → Lexed
 lexed_by s cs None = BadChar (place_of s cs)
-lexed_by s cs (Some t) = Token (record { kind = t.kind; from = place_of s cs; to = place_of s t.rest })
+lexed_by s cs (Some t) =
+    Token (record { kind = t.kind; from = place_of s cs; to = place_of s t.rest })
 
+-- the same, or the end where none is left
 abbrev pub lexed_at : Left → List ℕ → Lexed
 lexed_at s [] = ending s
 lexed_at s (c ∷ cs) = lexed_by s (c ∷ cs) (token_at (c ∷ cs))
@@ -49,6 +53,7 @@ lexed_at s (c ∷ cs) = lexed_by s (c ∷ cs) (token_at (c ∷ cs))
 abbrev pub lexed : Left → Lexed
 lexed s = lexed_at s (past_gap s)
 
+-- behind this token
 abbrev pub after_by : Left → Option Scanned → Left
 after_by s None = s
 after_by s (Some t) = record s { ahead = t.rest }
@@ -57,6 +62,7 @@ after_by s (Some t) = record s { ahead = t.rest }
 abbrev pub after : Left → Left
 after s = after_by s (token_at (past_gap s))
 
+-- the characters of this token
 abbrev pub spelling_by : Option Scanned → List ℕ
 spelling_by None = []
 spelling_by (Some t) = t.spelling
@@ -65,6 +71,7 @@ spelling_by (Some t) = t.spelling
 abbrev pub spelling : Left → List ℕ
 spelling s = spelling_by (token_at (past_gap s))
 
+-- What stands next is a token.
 abbrev pub IsToken : Lexed → Type 0
 IsToken (Token t) = Unit {0}
 IsToken _ = ⊥
