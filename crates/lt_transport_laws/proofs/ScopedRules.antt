@@ -1,0 +1,139 @@
+-- The raw sides of rules that are read from statements without loose names have none.
+use Rattle.std.specs.Prelude.{◌≡◌, ◌⊎◌, ℕ, ◌+◌, List, [], ◌∷◌, Bool, true, false, ◌||◌, ◌&&◌, not, if◌then◌else◌, Option, Some, None, Result, Ok, Err, codes, filter, slice_get, option_and_then}
+use Rattle.std.specs.List.{filter_map, cons_option}
+use Rattle.std.proofs.Common.{refl, subst, sym, ap, ◌∙◌, inl, inr, arith}
+use Rattle.lt_definitions.specs.Types.{Chars, same_name, found, TypeTree}
+use Rattle.lt_definitions.specs.Terms.{TermTree, free_variable, bound_name, constant, application, abstraction, has_loose, HasNoLooseNames}
+use Rattle.lt_definitions.specs.Typing.{Signature}
+use Rattle.lt_definitions.specs.Binding.{opened}
+use Rattle.lt_definitions.proofs.SameNames.{bool_cases}
+use Rattle.lt_nameless.proofs.BindingLemmas.{if-true, if-false}
+use Rattle.lt_transport_definitions.specs.Relations.{Property, RelationVariable, Registry}
+use Rattle.lt_transport_definitions.specs.Answers.{needs_test, needs, value_of}
+use Rattle.lt_transport_definitions.specs.Reading.{binders, behind_binders, relation_name, opened_from, body_of, prefix_of, read_relation}
+use Rattle.lt_transport_definitions.specs.RuleForm.{TransferRule, RulePart, rule_prefix, rule_head, rule_relation, rule_types, side_before, Conditioned, with_side, conditioned, Related, as_related, are_types_right, rule_form}
+use Rattle.lt_transport_definitions.specs.Sessions.{Session, signature_of, statement_at, rule_now, rules_now}
+use Rattle.lt_transport_laws.specs.SessionStatements.{AreScopedStatements}
+use Rattle.lt_transport_laws.proofs.Rows.{AllOf}
+use Rattle.lt_transport_laws.proofs.LooseNames.{opened-loose, variable-none, head-none, argument-none}
+
+-- opening the quantifiers of a statement leaves its loose names
+body-loose : (z : Chars) (i : ℕ) (t : TermTree) → has_loose z (opened_from i (binders t) (behind_binders t)) ≡ has_loose z t
+body-loose z i (application (constant c ts) (abstraction x ty b)) = elim (bool_cases (same_name c (codes "all"))) [
+  | inl s ↦ (λ j. has_loose z (opened_from i (if-true (same_name c (codes "all")) ((x, ty) ∷ binders b) [] s j)
+      (if-true (same_name c (codes "all")) (behind_binders b) (application (constant c ts) (abstraction x ty b)) s j)))
+      ∙ opened-loose z x (free_variable (relation_name i) ty) (opened_from (i + 1) (binders b) (behind_binders b)) (variable-none (relation_name i) ty)
+      ∙ ap (λ l. not (same_name z x) && l) (body-loose z (i + 1) b)
+  | inr s ↦ (λ j. has_loose z (opened_from i (if-false (same_name c (codes "all")) ((x, ty) ∷ binders b) [] s j)
+      (if-false (same_name c (codes "all")) (behind_binders b) (application (constant c ts) (abstraction x ty b)) s j)))
+]
+body-loose z i (application (constant c ts) (free_variable x ty)) = refl
+body-loose z i (application (constant c ts) (bound_name x)) = refl
+body-loose z i (application (constant c ts) (constant d us)) = refl
+body-loose z i (application (constant c ts) (application f a)) = refl
+body-loose z i (application (free_variable x ty) a) = refl
+body-loose z i (application (bound_name x) a) = refl
+body-loose z i (application (application f b) a) = refl
+body-loose z i (application (abstraction x ty b) a) = refl
+body-loose z i (free_variable x ty) = refl
+body-loose z i (bound_name x) = refl
+body-loose z i (constant c ts) = refl
+body-loose z i (abstraction x ty b) = refl
+
+body-none : (t : TermTree) → HasNoLooseNames t → HasNoLooseNames (body_of t)
+body-none t h z = body-loose z 1 t ∙ h z
+
+with_side-none : (o : Option (Property × ℕ)) (whole : TermTree) (behind : Conditioned) → HasNoLooseNames whole → HasNoLooseNames behind.rest
+    → HasNoLooseNames (with_side o whole behind).rest
+with_side-none None whole behind h k = h
+with_side-none (Some side) whole behind h k = k
+
+-- nor has what stands behind side conditions any
+rest-none : (sig : Signature) (xs : List RelationVariable) (t : TermTree) → HasNoLooseNames t → HasNoLooseNames (conditioned sig xs t).rest
+rest-none sig xs (application (application (constant c ts) p) q) h =
+    with_side-none (side_before sig xs c p) (application (application (constant c ts) p) q) (conditioned sig xs q) h
+    (rest-none sig xs q (argument-none (application (constant c ts) p) q h))
+rest-none sig xs (application (application (free_variable x ty) p) q) h = h
+rest-none sig xs (application (application (bound_name x) p) q) h = h
+rest-none sig xs (application (application (application f r) p) q) h = h
+rest-none sig xs (application (application (abstraction x ty b) p) q) h = h
+rest-none sig xs (application (free_variable x ty) q) h = h
+rest-none sig xs (application (bound_name x) q) h = h
+rest-none sig xs (application (constant c ts) q) h = h
+rest-none sig xs (application (abstraction x ty b) q) h = h
+rest-none sig xs (free_variable x ty) h = h
+rest-none sig xs (bound_name x) h = h
+rest-none sig xs (constant c ts) h = h
+rest-none sig xs (abstraction x ty b) h = h
+
+-- nor a raw side
+abbrev IsScopedRelated : Option Related → Type 0
+IsScopedRelated None = Unit {0}
+IsScopedRelated (Some r) = HasNoLooseNames r.raw
+
+related-none : (t : TermTree) → HasNoLooseNames t → IsScopedRelated (as_related t)
+related-none (application (application r raw) (constant c ts)) h =
+    argument-none r raw (head-none (application r raw) (constant c ts) h)
+related-none (application (application r raw) (free_variable x ty)) h = tt
+related-none (application (application r raw) (bound_name x)) h = tt
+related-none (application (application r raw) (application f a)) h = tt
+related-none (application (application r raw) (abstraction x ty b)) h = tt
+related-none (application (free_variable x ty) a) h = tt
+related-none (application (bound_name x) a) h = tt
+related-none (application (constant c ts) a) h = tt
+related-none (application (abstraction x ty b) a) h = tt
+related-none (free_variable x ty) h = tt
+related-none (bound_name x) h = tt
+related-none (constant c ts) h = tt
+related-none (abstraction x ty b) h = tt
+
+abbrev pub IsScopedRule : TransferRule → Type 0
+IsScopedRule rule = HasNoLooseNames rule.raw
+
+abbrev IsScopedOption : Option TransferRule → Type 0
+IsScopedOption None = Unit {0}
+IsScopedOption (Some rule) = IsScopedRule rule
+
+-- what is said of a result holds where nothing is wrong before it
+needs-scoped : {A : Type 0} (o : Option A) (e : RulePart) (f : A → Result TransferRule RulePart)
+    → ((x : A) → o ≡ Some x → IsScopedOption (value_of (f x))) → IsScopedOption (value_of (needs o e f))
+needs-scoped (Some x) e f h = h x refl
+needs-scoped None e f h = tt
+
+test-scoped : (b : Bool) (e : RulePart) (r : Result TransferRule RulePart) → IsScopedOption (value_of r) → IsScopedOption (value_of (needs_test b e r))
+test-scoped true e r h = h
+test-scoped false e r h = tt
+
+form-scoped : (sig : Signature) (G : Registry) (l : Chars) (t : TermTree) → HasNoLooseNames t → IsScopedOption (value_of (rule_form sig G l t))
+form-scoped sig G l t h = needs-scoped (prefix_of t) rule_prefix _ (λ xs e.
+    needs-scoped (as_related (conditioned sig xs (body_of t)).rest) rule_head _ (λ found d.
+    let raw : HasNoLooseNames found.raw =
+        subst IsScopedRelated d (related-none (conditioned sig xs (body_of t)).rest (rest-none sig xs (body_of t) (body-none t h))) in
+    needs-scoped (read_relation sig G xs found.relation) rule_relation _ (λ r c.
+    test-scoped (are_types_right xs t found.pattern r) rule_types _ raw)))
+
+rule_of-scoped : (sig : Signature) (G : Registry) (l : Chars) (o : Option TermTree) → ((t : TermTree) → o ≡ Some t → HasNoLooseNames t)
+    → IsScopedOption (option_and_then (λ t. value_of (rule_form sig G l t)) o)
+rule_of-scoped sig G l None h = tt
+rule_of-scoped sig G l (Some t) h = form-scoped sig G l t (h t refl)
+
+found-statement : (l : Chars) (ps : List (Chars × TermTree)) → AreScopedStatements ps → (t : TermTree) → found l ps ≡ Some t → HasNoLooseNames t
+found-statement l [] h t e = absurd (cc)
+found-statement l (p ∷ ps) h t e = elim (bool_cases (same_name l p.0)) [
+  | inl s ↦ let q : ◌≡◌ {A = Option TermTree} (Some p.1) (Some t) = sym (if-true (same_name l p.0) (Some p.1) (found l ps) s) ∙ e in
+      let same : p.1 ≡ t = cc in subst HasNoLooseNames same h.0
+  | inr s ↦ found-statement l ps h.1 t (sym (if-false (same_name l p.0) (Some p.1) (found l ps) s) ∙ e)
+]
+
+map-scoped : (h : Chars → Option TransferRule) → ((l : Chars) → IsScopedOption (h l)) → (ls : List Chars) → AllOf IsScopedRule (filter_map h ls)
+map-scoped h k [] = tt
+map-scoped h k (l ∷ ls) = first (h l) (k l) (filter_map h ls) (map-scoped h k ls)
+  where
+    first : (o : Option TransferRule) → IsScopedOption o → (rules : List TransferRule) → AllOf IsScopedRule rules → AllOf IsScopedRule (cons_option o rules)
+    first None h rules k = k
+    first (Some rule) h rules k = (h, k)
+
+-- the rules of a session whose statements have no loose names
+pub rules-scoped : (s : Session) → AreScopedStatements s.context.statements → AllOf IsScopedRule (rules_now s)
+rules-scoped s h = map-scoped (rule_now s) (λ l.
+    rule_of-scoped (signature_of s) s.registry l (statement_at s l) (found-statement l s.context.statements h)) s.rules

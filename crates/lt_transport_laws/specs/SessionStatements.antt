@@ -1,0 +1,91 @@
+-- What the laws on sessions and walks say.
+use Rattle.std.specs.Prelude.{◌≡◌, ℕ, List, [], ◌∷◌, ◌++◌, Option, Some, Ok, IsSome, map, codes}
+use Rattle.std.specs.List.{flat_map}
+use Rattle.lt_definitions.specs.Types.{Chars, found}
+use Rattle.lt_definitions.specs.Terms.{TermTree, HasNoLooseNames}
+use Rattle.lt_definitions.specs.Typing.{declared_arity}
+use Rattle.lt_definitions.specs.Items.{Item, Context}
+use Rattle.lt_transport_definitions.specs.Relations.{Relator, Parametrised, DomainRule}
+use Rattle.lt_transport_definitions.specs.Sessions.{LiftedEntry, Session, signature_of}
+use Rattle.lt_transport_definitions.specs.Commands.{Command, CommandRefusal, Block, session_behind}
+use Rattle.lt_transport_definitions.specs.Rows.{BlockOutcome}
+use Rattle.lt_transport_definitions.specs.Blocks.{ComesOf, Gives}
+use Rattle.lt_transport_definitions.specs.TheoryWalks.{Placed, Unread, End, WalksOver, theory_commands}
+use Rattle.lt_transport_laws.specs.Statements.{IsRegistry}
+
+-- Named statements without loose bound names.
+abbrev pub AreScopedStatements : List (Chars × TermTree) → Type 0
+AreScopedStatements [] = Unit {0}
+AreScopedStatements (p ∷ ps) = HasNoLooseNames p.1 × AreScopedStatements ps
+
+-- Domain equations whose domains have none.
+abbrev pub AreScopedDomains : List DomainRule → Type 0
+AreScopedDomains [] = Unit {0}
+AreScopedDomains (d ∷ ds) = HasNoLooseNames d.domain × AreScopedDomains ds
+
+-- A session in which each statement and each domain has its binders. Where its items are a valid plain theory, each statement is typed,
+-- so it has; and a domain is part of a statement.
+pub record IsScopedSession (s : Session) : Type 0 where
+  pub registry : IsRegistry s.registry
+  pub statements : AreScopedStatements s.context.statements
+  pub domains : AreScopedDomains s.registry.domain_rules
+
+-- One outcome comes of each command, transports included.
+abbrev pub EachOutcomeIsOne : Type 0
+EachOutcomeIsOne = (s : Session) (c : Command) (o p : BlockOutcome) → IsScopedSession s → ComesOf s c o → ComesOf s c p → o ≡ p
+
+-- A command leads to one session.
+abbrev pub SessionsAreOne : Type 0
+SessionsAreOne = (s : Session) (c : Command) (xs ys : List Item) (later other : Session) → IsScopedSession s → Gives s c xs later → Gives s c ys other → later ≡ other
+
+-- Each session that the commands lead to has its binders.
+abbrev pub AreScopedAlong : Session → List (Placed Command) → Type 0
+AreScopedAlong s [] = Unit {0}
+AreScopedAlong s (c ∷ cs) = IsScopedSession s × ((items : List Item) (later : Session) → Gives s c.command items later → AreScopedAlong later cs)
+
+-- A walk over commands has one end.
+abbrev pub WalksAreOne : Type 0
+WalksAreOne = (s : Session) (cs : List (Placed Command)) (wrong : Option (Unread × ℕ)) (xs ys : List (List Item)) (end other : End CommandRefusal)
+    → AreScopedAlong s cs → WalksOver theory_commands s cs wrong xs end → WalksOver theory_commands s cs wrong ys other → end ≡ other
+
+-- A block leaves the registry one that meets what the laws ask, where bool is declared without arguments.
+abbrev pub RegistriesStaySound : Type 0
+RegistriesStaySound = (s : Session) (c : Command) (b : Block) → declared_arity (signature_of s) (codes "bool") ≡ Some 0 → IsRegistry s.registry
+    → ComesOf s c (Ok b) → IsRegistry (session_behind s b).registry
+
+-- The label has a statement.
+abbrev pub IsStated : Context → Chars → Type 0
+IsStated ctx l = IsSome (found l ctx.statements)
+
+-- Each of these has.
+abbrev pub AreStated : Context → List Chars → Type 0
+AreStated ctx [] = Unit {0}
+AreStated ctx (l ∷ ls) = IsStated ctx l × AreStated ctx ls
+
+-- the labels that a relator keeps
+abbrev pub relator_labels : Relator → List Chars
+relator_labels r = r.eq ∷ r.quot ∷ r.comp ∷ []
+
+-- those that a parametrised form keeps
+abbrev pub form_labels : Parametrised → List Chars
+form_labels p = p.eq ∷ p.defined ∷ []
+
+-- those that a lifted constant keeps
+abbrev pub lifted_labels : LiftedEntry → List Chars
+lifted_labels e = e.defined ∷ e.by ∷ e.transfer ∷ []
+
+-- A session is in step where each label that it keeps has a statement.
+pub record IsInStep (s : Session) : Type 0 where
+  pub laws : AreStated s.context (map (λ p. p.1) s.laws)
+  pub relators : AreStated s.context (flat_map relator_labels s.registry.relators)
+  pub forms : AreStated s.context (flat_map form_labels s.registry.forms)
+  pub properties : AreStated s.context (map (λ r. r.label) s.registry.property_rules)
+  pub domains : AreStated s.context (map (λ r. r.label) s.registry.domain_rules)
+  pub rules : AreStated s.context s.rules
+  pub quotients : AreStated s.context (map (λ e. e.label) s.quotients)
+  pub lifted : AreStated s.context (flat_map lifted_labels s.lifted)
+  pub transports : AreStated s.context (map (λ e. e.label) s.transports)
+
+-- A session in step gives one in step.
+abbrev pub SessionsStayInStep : Type 0
+SessionsStayInStep = (s : Session) (c : Command) (b : Block) → IsInStep s → ComesOf s c (Ok b) → IsInStep (session_behind s b)

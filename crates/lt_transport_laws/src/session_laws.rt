@@ -1,0 +1,27 @@
+//! Laws of sessions and walks. Each function does nothing: its contract is the law.
+ghost use Rattle.lt_transport_laws.specs.SessionStatements.{EachOutcomeIsOne, SessionsAreOne, WalksAreOne, RegistriesStaySound, SessionsStayInStep};
+
+/// One outcome comes of each command, transports included, where each statement of the session has its binders.
+pub fn each_outcome_is_one()
+    ensures { EachOutcomeIsOne }
+{}
+
+/// A command leads to one session.
+pub fn sessions_are_one()
+    ensures { SessionsAreOne }
+{}
+
+/// A walk over commands has one end.
+pub fn walks_are_one()
+    ensures { WalksAreOne }
+{}
+
+/// A block leaves the registry one that meets what the laws ask.
+pub fn registries_stay_sound()
+    ensures { RegistriesStaySound }
+{}
+
+/// A session in step gives one in step: each label that it keeps has a statement.
+pub fn sessions_stay_in_step()
+    ensures { SessionsStayInStep }
+{}
