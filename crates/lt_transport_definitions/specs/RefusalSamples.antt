@@ -76,7 +76,7 @@ box_items = type_item (codes "cup") 1 ∷ type_item (codes "box") 1 ∷ type_ite
     ∷ axiom_item (codes "R_per") ((apply "part_equivp" (cup_four.rel ∷ [])).term)
     ∷ axiom_item (codes "Rb_per") ((apply "part_equivp" (given_constant "Rb" (tyvar "a" ~ tyvar "a") ∷ [])).term)
     ∷ axiom_item (codes "wv") ((rel_fun (rel_fun cup_four.corr (equality_at bool)) (equality_at bool)
-        · given_constant "w" ((cup (tyvar "a") ⇒ bool) ⇒ bool) · given_constant "v" ((box (tyvar "a") ⇒ bool) ⇒ bool)).term)
+    · given_constant "w" ((cup (tyvar "a") ⇒ bool) ⇒ bool) · given_constant "v" ((box (tyvar "a") ⇒ bool) ⇒ bool)).term)
     ∷ axiom_item (codes "ne") ((cup_four.corr · given_constant "none" (cup (tyvar "a")) · given_constant "empty" (box (tyvar "a"))).term)
     ∷ axiom_item (codes "zz") ((given_constant "z" nat ≐ given_constant "z" nat).term)
     ∷ axiom_item (codes "T_right") ((apply "right_total" (cup_four.corr ∷ [])).term)

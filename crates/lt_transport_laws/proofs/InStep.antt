@@ -56,42 +56,113 @@ rules-one ctx (m ∷ ls) l h k = (h.0, rules-one ctx ls l h.1 k)
 registers : (ctx : Context) (s : Session) (r : Registration) → IsInStepAt ctx s → AreStated ctx (labels_of r) → IsInStepAt ctx (with_registration s r)
 registers ctx s (law_registered w l) h k = record {
   laws = unless-one ctx (λ p. p.1) (λ p. same_name w p.0) s.laws (w, l) h.laws k.0;
-  relators = h.relators; forms = h.forms; properties = h.properties; domains = h.domains; rules = h.rules; quotients = h.quotients; lifted = h.lifted; transports = h.transports;
+  relators = h.relators;
+  forms = h.forms;
+  properties = h.properties;
+  domains = h.domains;
+  rules = h.rules;
+  quotients = h.quotients;
+  lifted = h.lifted;
+  transports = h.transports;
 }
 registers ctx s (corr_registered d) h k = record {
-  laws = h.laws; relators = h.relators; forms = h.forms; properties = h.properties; domains = h.domains; rules = h.rules; quotients = h.quotients; lifted = h.lifted; transports = h.transports;
+  laws = h.laws;
+  relators = h.relators;
+  forms = h.forms;
+  properties = h.properties;
+  domains = h.domains;
+  rules = h.rules;
+  quotients = h.quotients;
+  lifted = h.lifted;
+  transports = h.transports;
 }
 registers ctx s (relator_registered r) h k = record {
   relators = flat-one ctx relator_labels s.registry.relators r h.relators k;
-  laws = h.laws; forms = h.forms; properties = h.properties; domains = h.domains; rules = h.rules; quotients = h.quotients; lifted = h.lifted; transports = h.transports;
+  laws = h.laws;
+  forms = h.forms;
+  properties = h.properties;
+  domains = h.domains;
+  rules = h.rules;
+  quotients = h.quotients;
+  lifted = h.lifted;
+  transports = h.transports;
 }
 registers ctx s (form_registered p) h k = record {
   forms = flat-one ctx form_labels s.registry.forms p h.forms k;
-  laws = h.laws; relators = h.relators; properties = h.properties; domains = h.domains; rules = h.rules; quotients = h.quotients; lifted = h.lifted; transports = h.transports;
+  laws = h.laws;
+  relators = h.relators;
+  properties = h.properties;
+  domains = h.domains;
+  rules = h.rules;
+  quotients = h.quotients;
+  lifted = h.lifted;
+  transports = h.transports;
 }
 registers ctx s (property_registered r) h k = record {
   properties = unless-one ctx (λ (q : PropertyRule). q.label) (λ e. same_property r.property e.property && same_name r.head e.head) s.registry.property_rules r h.properties k.0;
-  laws = h.laws; relators = h.relators; forms = h.forms; domains = h.domains; rules = h.rules; quotients = h.quotients; lifted = h.lifted; transports = h.transports;
+  laws = h.laws;
+  relators = h.relators;
+  forms = h.forms;
+  domains = h.domains;
+  rules = h.rules;
+  quotients = h.quotients;
+  lifted = h.lifted;
+  transports = h.transports;
 }
 registers ctx s (domain_registered r) h k = record {
   domains = unless-one ctx (λ (q : DomainRule). q.label) (λ e. same_name r.head e.head) s.registry.domain_rules r h.domains k.0;
-  laws = h.laws; relators = h.relators; forms = h.forms; properties = h.properties; rules = h.rules; quotients = h.quotients; lifted = h.lifted; transports = h.transports;
+  laws = h.laws;
+  relators = h.relators;
+  forms = h.forms;
+  properties = h.properties;
+  rules = h.rules;
+  quotients = h.quotients;
+  lifted = h.lifted;
+  transports = h.transports;
 }
 registers ctx s (rule_registered l) h k = record {
   rules = rules-one ctx s.rules l h.rules k.0;
-  laws = h.laws; relators = h.relators; forms = h.forms; properties = h.properties; domains = h.domains; quotients = h.quotients; lifted = h.lifted; transports = h.transports;
+  laws = h.laws;
+  relators = h.relators;
+  forms = h.forms;
+  properties = h.properties;
+  domains = h.domains;
+  quotients = h.quotients;
+  lifted = h.lifted;
+  transports = h.transports;
 }
 registers ctx s (quotient_registered e) h k = record {
   quotients = map-one ctx (λ (q : QuotientEntry). q.label) s.quotients e h.quotients k.0;
-  laws = h.laws; relators = h.relators; forms = h.forms; properties = h.properties; domains = h.domains; rules = h.rules; lifted = h.lifted; transports = h.transports;
+  laws = h.laws;
+  relators = h.relators;
+  forms = h.forms;
+  properties = h.properties;
+  domains = h.domains;
+  rules = h.rules;
+  lifted = h.lifted;
+  transports = h.transports;
 }
 registers ctx s (lifted_registered e) h k = record {
   lifted = flat-one ctx lifted_labels s.lifted e h.lifted k;
-  laws = h.laws; relators = h.relators; forms = h.forms; properties = h.properties; domains = h.domains; rules = h.rules; quotients = h.quotients; transports = h.transports;
+  laws = h.laws;
+  relators = h.relators;
+  forms = h.forms;
+  properties = h.properties;
+  domains = h.domains;
+  rules = h.rules;
+  quotients = h.quotients;
+  transports = h.transports;
 }
 registers ctx s (transport_registered e) h k = record {
   transports = map-one ctx (λ t. t.label) s.transports e h.transports k.0;
-  laws = h.laws; relators = h.relators; forms = h.forms; properties = h.properties; domains = h.domains; rules = h.rules; quotients = h.quotients; lifted = h.lifted;
+  laws = h.laws;
+  relators = h.relators;
+  forms = h.forms;
+  properties = h.properties;
+  domains = h.domains;
+  rules = h.rules;
+  quotients = h.quotients;
+  lifted = h.lifted;
 }
 
 -- the labels of each registration are stated
@@ -138,7 +209,15 @@ add-all s t items h = record {
 added-same : (ctx : Context) (s : Session) (items : List Addition) → IsInStepAt ctx s → IsInStepAt ctx (fold with_addition s items)
 added-same ctx s [] h = h
 added-same ctx s (a ∷ items) h = added-same ctx (with_addition s a) items (record {
-  laws = h.laws; relators = h.relators; forms = h.forms; properties = h.properties; domains = h.domains; rules = h.rules; quotients = h.quotients; lifted = h.lifted; transports = h.transports;
+  laws = h.laws;
+  relators = h.relators;
+  forms = h.forms;
+  properties = h.properties;
+  domains = h.domains;
+  rules = h.rules;
+  quotients = h.quotients;
+  lifted = h.lifted;
+  transports = h.transports;
 })
 
 -- a label has a statement, or one of the additions states it
@@ -215,12 +294,28 @@ in-rows s (rep_eq_command c) = λ e f n q m. tt
 
 in-step-at : (s : Session) → IsInStep s → IsInStepAt s.context s
 in-step-at s h = record {
-  laws = h.laws; relators = h.relators; forms = h.forms; properties = h.properties; domains = h.domains; rules = h.rules; quotients = h.quotients; lifted = h.lifted; transports = h.transports;
+  laws = h.laws;
+  relators = h.relators;
+  forms = h.forms;
+  properties = h.properties;
+  domains = h.domains;
+  rules = h.rules;
+  quotients = h.quotients;
+  lifted = h.lifted;
+  transports = h.transports;
 }
 
 at-in-step : (ctx : Context) (s : Session) → s.context ≡ ctx → IsInStepAt ctx s → IsInStep s
 at-in-step ctx s e k = let h : IsInStepAt s.context s = subst (λ (c : Context). IsInStepAt c s) (sym e) k in record {
-  laws = h.laws; relators = h.relators; forms = h.forms; properties = h.properties; domains = h.domains; rules = h.rules; quotients = h.quotients; lifted = h.lifted; transports = h.transports;
+  laws = h.laws;
+  relators = h.relators;
+  forms = h.forms;
+  properties = h.properties;
+  domains = h.domains;
+  rules = h.rules;
+  quotients = h.quotients;
+  lifted = h.lifted;
+  transports = h.transports;
 }
 
 behind : (s : Session) (b : Block) → IsInStep s → Registers s b → IsInStep (session_behind s b)

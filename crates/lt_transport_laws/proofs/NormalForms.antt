@@ -45,12 +45,12 @@ steps-one s t u w (in_body x v ty b c closing n k m) (in_body y v2 ty2 b2 c2 clo
     let n0 : has_free v ty2 b ≡ false = subst (λ (r : TypeTree). has_free v r b ≡ false) h.0 n in
     let fresh : has_free v2 ty2 b ≡ false = alpha_keeps_free_variables (abstraction x ty b) (abstraction y ty2 b2) v2 ty2 h ∙ n2 in
     let k1 : Steps (opened x (free_variable v2 ty2) b) (swapped ty2 v v2 c) =
-        subst (λ r. Steps r (swapped ty2 v v2 c)) (swapped-renames ty2 v v2 x b n0 fresh)
-        (swapped-steps ty2 v v2 (opened x (free_variable v ty2) b) c k0) in
+    subst (λ r. Steps r (swapped ty2 v v2 c)) (swapped-renames ty2 v v2 x b n0 fresh)
+    (swapped-steps ty2 v v2 (opened x (free_variable v ty2) b) c k0) in
     let both : AreAlpha [] (swapped ty2 v v2 c) c2 =
-        steps-one (opened x (free_variable v2 ty2) b) (opened y (free_variable v2 ty2) b2) (swapped ty2 v v2 c) c2 k1 k2
-        (alpha_kept_by_opening x y ty ty2 b b2 (free_variable v2 ty2) (free_variable v2 ty2) h (alpha_is_reflexive (free_variable v2 ty2)) (variable-none v2 ty2))
-        (opened-none x ty (free_variable v2 ty2) b (variable-none v2 ty2) l) in
+    steps-one (opened x (free_variable v2 ty2) b) (opened y (free_variable v2 ty2) b2) (swapped ty2 v v2 c) c2 k1 k2
+    (alpha_kept_by_opening x y ty ty2 b b2 (free_variable v2 ty2) (free_variable v2 ty2) h (alpha_is_reflexive (free_variable v2 ty2)) (variable-none v2 ty2))
+    (opened-none x ty (free_variable v2 ty2) b (variable-none v2 ty2) l) in
     alpha_kept_by_closing v2 ty2 (swapped ty2 v v2 c) c2 closing closing2 both (renamed-closing ty2 v v2 x b c closing n0 fresh k0 m0) m2
 
 -- as many steps from alpha-equal terms lead to alpha-equal terms

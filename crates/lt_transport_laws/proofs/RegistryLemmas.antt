@@ -124,7 +124,7 @@ more f g kf kg rs r h n x y e = elim (bool_cases (same_name x kf)) [
       ∙ sym (if-true (same_name x kf) (Some kg) (option_map g (find (λ q. same_name x (f q)) (rs ++ r ∷ []))) s) ∙ e))
   | inr s ↦
       let d : option_map g (find (λ q. same_name x (f q)) (rs ++ r ∷ [])) ≡ Some y =
-          sym (if-false (same_name x kf) (Some kg) (option_map g (find (λ q. same_name x (f q)) (rs ++ r ∷ []))) s) ∙ e in
+      sym (if-false (same_name x kf) (Some kg) (option_map g (find (λ q. same_name x (f q)) (rs ++ r ∷ []))) s) ∙ e in
       elim (optional (find (λ q. same_name x (f q)) rs)) [
         | inl p ↦ kept g f kg kf rs r y x (h x y (if-false (same_name x kf) (Some kg) (option_map g (find (λ q. same_name x (f q)) rs)) s
             ∙ ap (option_map g) (p.1 ∙ sym (find-found (λ q. same_name x (f q)) rs r p.0 p.1)) ∙ d))

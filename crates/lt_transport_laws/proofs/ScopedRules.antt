@@ -108,7 +108,7 @@ form-scoped : (sig : Signature) (G : Registry) (l : Chars) (t : TermTree) → Ha
 form-scoped sig G l t h = needs-scoped (prefix_of t) rule_prefix _ (λ xs e.
     needs-scoped (as_related (conditioned sig xs (body_of t)).rest) rule_head _ (λ found d.
     let raw : HasNoLooseNames found.raw =
-        subst IsScopedRelated d (related-none (conditioned sig xs (body_of t)).rest (rest-none sig xs (body_of t) (body-none t h))) in
+    subst IsScopedRelated d (related-none (conditioned sig xs (body_of t)).rest (rest-none sig xs (body_of t) (body-none t h))) in
     needs-scoped (read_relation sig G xs found.relation) rule_relation _ (λ r c.
     test-scoped (are_types_right xs t found.pattern r) rule_types _ raw)))
 

@@ -76,11 +76,11 @@ pub least-true : IsLeast solved_true
 unfolding solved_true
 least-true other =
     let n : length (numbers_of solved_true.chosen) ≡ length (numbers_of other.chosen) =
-        numbers-length solved_true.chosen ∙ ap (λ u. length (occurrences u)) (solved_true.of_statement ∙ sym other.of_statement) ∙ sym (numbers-length other.chosen) in
+    numbers-length solved_true.chosen ∙ ap (λ u. length (occurrences u)) (solved_true.of_statement ∙ sym other.of_statement) ∙ sym (numbers-length other.chosen) in
     let both = append-both (numbers_of solved_true.chosen) (solved_true.top ∷ []) (numbers_of other.chosen) (other.top ∷ []) n
-        (numbers-same question_true first_choices solved_true other) in
+    (numbers-same question_true first_choices solved_true other) in
     let same : solved_true.chosen ≡ other.chosen = same-chosen (rule_all ∷ []) solved_true.chosen other.chosen (solved_true.of_statement ∙ sym other.of_statement) both.0
-        solved_true.by_candidates other.by_candidates in
+    solved_true.by_candidates other.by_candidates in
     assigned-below other.chosen same other.assignment other.assigned
 
 pub least-solution : (w : Solution question_true first_choices) × IsLeast w × (relations_of w ≡ equality int ∷ equality int ∷ []) × (image_by w ≡ always_true)
@@ -156,21 +156,33 @@ three = (0 ∷ []) ∷ (0 ∷ 0 ∷ []) ∷ (0 ∷ 0 ∷ 0 ∷ []) ∷ []
 first_visit : IsVisit question_s_z (0 ∷ [])
 unfolding digits
 first_visit = record {
-  parent = []; last = 0; longer = refl; choices = (inr refl, tt); live = inl refl;
+  parent = [];
+  last = 0;
+  longer = refl;
+  choices = (inr refl, tt);
+  live = inl refl;
   no_later = λ choices s a. inl (0 ∷ 0 ∷ [], answers-first choices s a);
 }
 
 second_visit : IsVisit question_s_z (0 ∷ 0 ∷ [])
 unfolding digits
 second_visit = record {
-  parent = 0 ∷ []; last = 0; longer = refl; choices = (inr refl, (inr refl, tt)); live = inr first_solved;
+  parent = 0 ∷ [];
+  last = 0;
+  longer = refl;
+  choices = (inr refl, (inr refl, tt));
+  live = inr first_solved;
   no_later = λ choices s a. inl (0 ∷ [], answers-first choices s a);
 }
 
 third_visit : IsVisit question_s_z (0 ∷ 0 ∷ 0 ∷ [])
 unfolding digits
 third_visit = record {
-  parent = 0 ∷ 0 ∷ []; last = 0; longer = refl; choices = (inr refl, (inr refl, (refl, refl))); live = inr second_solved;
+  parent = 0 ∷ 0 ∷ [];
+  last = 0;
+  longer = refl;
+  choices = (inr refl, (inr refl, (refl, refl)));
+  live = inr second_solved;
   no_later = λ choices s a. inl ([], answers-first choices s a);
 }
 
@@ -228,5 +240,7 @@ none-second (inl e) = cc
 none-second (inr e) = e
 
 pub different : AreDifferent three
-different = (not-in ((0 ∷ 0 ∷ []) ∷ (0 ∷ 0 ∷ 0 ∷ []) ∷ []) (0 ∷ []) none-first,
-    (not-in ((0 ∷ 0 ∷ 0 ∷ []) ∷ []) (0 ∷ 0 ∷ []) none-second, (not-in [] (0 ∷ 0 ∷ 0 ∷ []) (λ e. e), tt)))
+different = (
+  not-in ((0 ∷ 0 ∷ []) ∷ (0 ∷ 0 ∷ 0 ∷ []) ∷ []) (0 ∷ []) none-first,
+  (not-in ((0 ∷ 0 ∷ 0 ∷ []) ∷ []) (0 ∷ 0 ∷ []) none-second, (not-in [] (0 ∷ 0 ∷ 0 ∷ []) (λ e. e), tt)),
+)
