@@ -1,25 +1,24 @@
 -- At one place stands one of a command, the text's end and a fault, and a text has one first wrong place.
-use Rattle.std.proofs.Common.{◌≡◌, ℕ, ◌∙◌, ap, sym, refl, subst, inl, inr, Bool, true, false, List, [], ◌∷◌, ◌++◌, append_assoc, append-nil}
-use Rattle.std.specs.Prelude.{◌⊎◌, ◌&&◌, not}
+use Rattle.std.proofs.Common.{◌≡◌, ℕ, ◌∙◌, ap, sym, refl, subst, inl, inr, true, false, List, [], ◌∷◌, ◌++◌, append_assoc, append-nil}
+use Rattle.std.specs.Prelude.{not}
 use Rattle.std.proofs.lemmas.Bool.{and_parts}
-use Rattle.lt_texts.specs.declared.lexical.Lexed.{Lexed}
 use Rattle.lt_texts.specs.declared.lexical.Lexed.TheVariants.{End, BadByte, BadChar}
 use Rattle.lt_definitions.specs.Types.{Chars, same_name, has_name}
 use Rattle.lt_definitions.proofs.SameNames.{true-name}
 use Rattle.lt_texts.specs.Tokens.{Scanned}
 use Rattle.lt_texts.specs.Texts.{Left, left_of, place_of}
 use Rattle.lt_texts.specs.Lexemes.{Lexeme, a_name, lexeme}
-use Rattle.lt_texts.specs.Reading.{IsNextToken, Shows, Reads, IsRead}
+use Rattle.lt_texts.specs.Reading.{Shows, Reads}
 use Rattle.lt_texts.specs.Commands.{Command}
-use Rattle.lt_texts.specs.Pieces.{Piece, AreWritten}
-use Rattle.lt_texts.specs.Forms.{Form, may_stand, Sentence, header_again, a_command, header_text, sentence_text, sentences_text, IsAllowed, AreAllowed, commands_of, HasCommands}
-use Rattle.lt_texts.specs.WrongPlaces.{Wrong, bad_header, bad_command, bad_syntax, bad_byte, bad_char, Language, IsWhole, IsRest, IsViable, IsFront, IsStop, IsWrong, called, AreHeaders, Stands, Begins, NextCommand, AtEnd, FailsAt, HeaderFailsAt, IsCalled, IsFirstWrong}
+use Rattle.lt_texts.specs.Pieces.{AreWritten}
+use Rattle.lt_texts.specs.Forms.{Form, may_stand, Sentence, header_again, a_command, header_text, sentence_text, sentences_text, IsAllowed, AreAllowed, HasCommands}
+use Rattle.lt_texts.specs.WrongPlaces.{Wrong, bad_header, bad_byte, bad_char, Language, IsWhole, IsRest, IsViable, IsFront, IsStop, IsWrong, called, AreHeaders, Begins, NextCommand, AtEnd, FailsAt, HeaderFailsAt, IsCalled, IsFirstWrong}
 use Rattle.lt_texts.proofs.ReadingOrder.{one_found, one_token, one_shown, token_no_end, token_no_byte, token_no_char, reads_append, GoesOn, reads_compare}
 use Rattle.lt_grammar.specs.RowTexts.{PartText, header, item, lemma, command, text_lexemes, sentence_of, MayStand}
 use Rattle.lt_grammar.specs.Words.{head_word}
 use Rattle.lt_grammar.proofs.RowReading.{head_of_part}
 use Rattle.lt_grammar.proofs.RowPieces.{join_written, split_written, written_sentence, allowed_may}
-use Rattle.lt_grammar.proofs.Sentences.{one_sentence, sentence_not_empty, sentence_goes_on, join_sentences, allowed_append, sentences_go_on, Later, later_sentences, one_sentences}
+use Rattle.lt_grammar.proofs.Sentences.{one_sentence, sentence_goes_on, join_sentences, allowed_append, sentences_go_on, Later, later_sentences}
 
 -- ---- sentences in a row, and the front of one behind them
 
@@ -229,9 +228,14 @@ abbrev Said : Form → Left → Command → Left → Type 0
 Said f s c s' = (ys : List Sentence) × AreHeaders ys × AreAllowed f (ys ++ a_command c ∷ []) × (bs : List Lexeme) × AreWritten (sentences_text f (ys ++ a_command c ∷ [])) bs [] × Reads s bs s'
 
 said-of : (f : Form) (s : Left) (c : Command) (s' : Left) → NextCommand f s c s' → Said f s c s'
-said-of f s c s' (ys, b, i, m, (hs, w, r), (cs, v, k)) =
-    (ys, b, allowed_append f ys (a_command c ∷ []) (headers-allowed f ys b) (i, tt), hs ++ cs,
-      join_sentences f ys (a_command c ∷ []) (hs ++ cs) cs [] (sentences_go_on f ys hs [] cs w) (one-row f (a_command c) cs [] v), reads_append s m s' hs cs r k)
+said-of f s c s' (ys, b, i, m, (hs, w, r), (cs, v, k)) = (
+  ys,
+  b,
+  allowed_append f ys (a_command c ∷ []) (headers-allowed f ys b) (i, tt),
+  hs ++ cs,
+  join_sentences f ys (a_command c ∷ []) (hs ++ cs) cs [] (sentences_go_on f ys hs [] cs w) (one-row f (a_command c) cs [] v),
+  reads_append s m s' hs cs r k,
+)
 
 -- whole sentences whose lexemes end within what is reached have nothing behind them
 within : (f : Form) (ws bs : List Lexeme) (more : List Lexeme) (r : Reached f ws) (ys : List Sentence) → AreAllowed f ys → AreWritten (sentences_text f ys) bs [] → ws ≡ bs ++ more
@@ -390,9 +394,21 @@ wrong-whole : (f : Form) (xs : List Sentence) (done part : List Lexeme) (call : 
 wrong-whole f xs done part call s e a w (inl h) = inl h
 wrong-whole f xs done part call s e a w (inr (inl h)) = inr (inl h)
 wrong-whole f xs done part call s e a w (inr (inr (n, inl (t, m, q, stops), p))) =
-    inr (inr (n, inl (t, m, q, λ v. stops (v.0, rest-of-whole f xs done a w ((part ++ lexeme t.kind t.spelling ∷ []) ++ v.0)
-    (subst (IsWhole f) (ap (λ (z : List Lexeme). z ++ v.0) (append_assoc done part (lexeme t.kind t.spelling ∷ []))
-    ∙ append_assoc done (part ++ lexeme t.kind t.spelling ∷ []) v.0) v.1))), p))
+    inr (inr (
+      n,
+      inl (
+        t,
+        m,
+        q,
+        λ v. stops (
+          v.0,
+          rest-of-whole f xs done a w ((part ++ lexeme t.kind t.spelling ∷ []) ++ v.0)
+              (subst (IsWhole f) (ap (λ (z : List Lexeme). z ++ v.0) (append_assoc done part (lexeme t.kind t.spelling ∷ []))
+              ∙ append_assoc done (part ++ lexeme t.kind t.spelling ∷ []) v.0) v.1),
+        ),
+      ),
+      p,
+    ))
 wrong-whole f xs done part call s e a w (inr (inr (n, inr (h, q, stops), p))) = inr (inr (n, inr (h, q, λ v. stops (rest-of-whole f xs done a w part v)), p))
 
 pub fault_is_first_wrong : (f : Form) (text : List ℕ) (cs : List Command) (s : Left) (e : Wrong) → Begins f text cs s → FailsAt f s e → IsFirstWrong f text e
@@ -404,10 +420,15 @@ fault_is_first_wrong f text cs s e (xs, a, (bs, w, r), _) (ys, b, m, (hs, v, q),
     let whole : AreWritten (sentences_text f (header_again ∷ ((xs ++ ys) ++ x ∷ []))) (((bs ++ hs) ++ ws) ++ front.0 ∷ front.1) [] =
     subst (λ (z : List Lexeme). AreWritten (sentences_text f (header_again ∷ ((xs ++ ys) ++ x ∷ []))) z []) (sym (append_assoc (bs ++ hs) ws (front.0 ∷ front.1)))
     (join_sentences f (header_again ∷ (xs ++ ys)) (x ∷ []) ((bs ++ hs) ++ (ws ++ front.0 ∷ front.1)) (ws ++ front.0 ∷ front.1) []
-    (sentences_go_on f (header_again ∷ (xs ++ ys)) (bs ++ hs) [] (ws ++ front.0 ∷ front.1) done) (one-row f x (ws ++ front.0 ∷ front.1) [] front.2)) in
-    ((bs ++ hs) ++ ws, at, reads, (front.0 ∷ front.1, ((xs ++ ys) ++ x ∷ [], allowed_append f (xs ++ ys) (x ∷ []) both (i, tt), whole)),
-      called x ws, inr (xs ++ ys, both, x, i, bs ++ hs, ws, done, front, refl, refl),
-      wrong-whole f (xs ++ ys) (bs ++ hs) ws (called x ws) at e both done wrong)
+    (sentences_go_on f (header_again ∷ (xs ++ ys)) (bs ++ hs) [] (ws ++ front.0 ∷ front.1) done) (one-row f x (ws ++ front.0 ∷ front.1) [] front.2)) in (
+      (bs ++ hs) ++ ws,
+      at,
+      reads,
+      (front.0 ∷ front.1, ((xs ++ ys) ++ x ∷ [], allowed_append f (xs ++ ys) (x ∷ []) both (i, tt), whole)),
+      called x ws,
+      inr (xs ++ ys, both, x, i, bs ++ hs, ws, done, front, refl, refl),
+      wrong-whole f (xs ++ ys) (bs ++ hs) ws (called x ws) at e both done wrong,
+    )
 
 pub header_is_first_wrong : (f : Form) (text : List ℕ) (e : Wrong) → HeaderFailsAt f (left_of text) e → IsFirstWrong f text e
 header_is_first_wrong f text e (ws, front, at, r, wrong) =

@@ -1,5 +1,5 @@
 -- What is printed of pieces, with one space between, is cut into the lexemes of pieces alike.
-use Rattle.std.proofs.Common.{lit<, ◌≡◌, ℕ, ◌+◌, ◌-◌, ◌*◌, ◌<◌, ◌≤◌, ◌∙◌, ap, sym, refl, subst, Bool, true, false, List, [], ◌∷◌, ◌++◌, length, codes, arith, append_assoc, append-nil, Option, Some, None}
+use Rattle.std.proofs.Common.{lit<, ◌≡◌, ℕ, ◌+◌, ◌-◌, ◌*◌, ◌<◌, ◌∙◌, ap, sym, refl, subst, Bool, true, false, List, [], ◌∷◌, ◌++◌, length, codes, arith, append_assoc, append-nil, Option, Some, None}
 use Rattle.std.specs.Prelude.{if◌then◌else◌, ◌&&◌, ◌||◌, ◌==◌, not, ◌^◌, map, nat_lt}
 use Rattle.std.specs.List.{list_all}
 use Rattle.std.specs.Fmt.{decimal}
@@ -11,30 +11,29 @@ use Rattle.std.proofs.lemmas.Str.Parse.{digit_from_value}
 use Rattle.std.proofs.lemmas.Bool.{and_parts, and_from, ne_eqb, le-leb, ltb-true, lt-ltb}
 use Rattle.unicode_ident.specs.Ident.{is_xid_continue}
 use Rattle.unicode_ident.proofs.IdentLemmas.{is_xid_continue-ascii}
-use Rattle.lt_texts.specs.declared.lexical.TokenKind.{TokenKind}
 use Rattle.lt_texts.specs.declared.lexical.TokenKind.TheVariants.{Name, Number, Colon, Becomes, OpenBrace, CloseBrace, Semicolon}
-use Rattle.lt_definitions.specs.Types.{Chars, TypeTree}
+use Rattle.lt_definitions.specs.Types.{Chars}
 use Rattle.lt_definitions.specs.Terms.{TermTree}
 use Rattle.lt_definitions.specs.Alpha.{IsAlphaEqual}
-use Rattle.lt_definitions.specs.Characters.{is_white, starts_name, is_name, is_numeral, more_digits, number_of, behind_gap}
+use Rattle.lt_definitions.specs.Characters.{starts_name, is_name, is_numeral, more_digits, number_of}
 use Rattle.lt_definitions.specs.Printing.{words}
-use Rattle.lt_texts.specs.Spelling.{is_spelt, stops}
+use Rattle.lt_texts.specs.Spelling.{stops}
 use Rattle.lt_texts.specs.Gaps.{begins_none}
-use Rattle.lt_texts.specs.Lexemes.{Lexeme, a_name, a_variable, a_number, a_sign, lexeme}
-use Rattle.lt_texts.specs.Writing.{TermText, TermTexts, no_more_terms, type_lexemes, term_lexemes, term_of_text}
-use Rattle.lt_texts.specs.Pieces.{Piece, word_piece, sign_piece, name_piece, number_piece, variable_piece, type_piece, statement_piece, term_piece, keyword, semicolon, colon, printed_piece}
-use Rattle.lt_texts.specs.Named.{IsName, IsReadable, IsReadablePiece, AreReadable, IsAlikePiece, AreAlike}
+use Rattle.lt_texts.specs.Lexemes.{Lexeme, a_number, a_sign}
+use Rattle.lt_texts.specs.Writing.{TermText, no_more_terms, term_lexemes, term_of_text}
+use Rattle.lt_texts.specs.Pieces.{Piece, variable_piece, type_piece, term_piece, colon, printed_piece}
+use Rattle.lt_texts.specs.Named.{IsReadable, AreReadable, IsAlikePiece, AreAlike}
 use Rattle.lt_texts.proofs.CharacterRuns.{starts_name-ascii}
 use Rattle.lt_grammar.specs.declared.words.Fixed.{Fixed}
 use Rattle.lt_grammar.specs.declared.words.Fixed.TheVariants as signs
 use Rattle.lt_grammar.specs.declared.words.Part.{Part}
 use Rattle.lt_grammar.specs.declared.words.Part.TheVariants.{Label, Number as ANumber, Variable, Parameters, AType, AStatement, ATerm, Fixed as Exactly}
-use Rattle.lt_grammar.specs.Rows.{Row, fixed, Text, variables_lexemes, part_lexemes, Texts, parts_lexemes}
+use Rattle.lt_grammar.specs.Rows.{Row, fixed, variables_lexemes, Texts, parts_lexemes}
 use Rattle.lt_grammar.specs.RowTexts.{row_lexemes}
-use Rattle.lt_grammar.proofs.OneWay.{IsClear, fixed_clear, type_clear, term_clear, parts_clear}
-use Rattle.lt_grammar.proofs.RowPieces.{Arg, Args, args, fixed_piece, part_pieces, parts_pieces, row_pieces}
+use Rattle.lt_grammar.proofs.OneWay.{IsClear, fixed_clear, type_clear, term_clear}
+use Rattle.lt_grammar.proofs.RowPieces.{Args, args, fixed_piece, parts_pieces, row_pieces}
 use Rattle.lt_grammar.proofs.Shown.{shown, none_loose, shown_is_alpha}
-use Rattle.lt_grammar.proofs.Cuts.{Cut, Cuts, passed, cut_name, cut_variable, IsSign, cut-sign, spaced, stops-at, Stopped, space-stops, cut_type, cut_term}
+use Rattle.lt_grammar.proofs.Cuts.{Cuts, passed, cut_name, cut_variable, IsSign, cut-sign, spaced, stops-at, Stopped, cut_type, cut_term}
 
 -- ---- what stands behind a piece
 
@@ -111,15 +110,18 @@ pub cut_number : (k : ℕ) (cs : List ℕ) (ws : List Lexeme) (rest : List ℕ) 
 unfolding Cuts
 cut_number k cs ws rest h s l =
     let d = decimal_is_IsNumeral k (omega (arith, h)) in
-    let is : is_numeral (decimal k) ≡ true = numeral (decimal k) d.0.0 d.0.1 in
-    (cs, record {
-      kind = Number;
-      word = decimal k;
-      gap = passed (decimal k ++ cs) (digit-begins (decimal k) cs d.0.0 d.0.1);
-      spelt = is;
-      stops = s;
-      same = ap a_number (sym (told (decimal k) k is (digits-value 0 (decimal k) d.0.1 ∙ d.1) h));
-    }, l)
+    let is : is_numeral (decimal k) ≡ true = numeral (decimal k) d.0.0 d.0.1 in (
+      cs,
+      record {
+        kind = Number;
+        word = decimal k;
+        gap = passed (decimal k ++ cs) (digit-begins (decimal k) cs d.0.0 d.0.1);
+        spelt = is;
+        stops = s;
+        same = ap a_number (sym (told (decimal k) k is (digits-value 0 (decimal k) d.0.1 ∙ d.1) h));
+      },
+      l,
+    )
 
 open-brace-stops : (cs : List ℕ) → stops OpenBrace cs ≡ true
 open-brace-stops [] = refl
@@ -231,43 +233,64 @@ pub parts_cut : (ps : List Part) (vs : Args ps) → AreReadable (parts_pieces ps
 parts_cut [] vs r = (tt, tt, λ cs ws rest e n l. l)
 parts_cut (Label ∷ ps) vs r =
     let k = parts_cut ps vs.1 r.1 in
-    let later : List Piece = parts_pieces ps vs.1 [] in
-    ((vs.0, k.0), (refl, k.1), λ cs ws rest e n l. behind-space vs.0 (spaced_text later) cs _ rest tt
-        (cut_name vs.0 (spaced_text later ++ cs) _ rest r.0.0 (tail-ends later cs e).name (k.2 cs ws rest e n l)))
+    let later : List Piece = parts_pieces ps vs.1 [] in (
+      (vs.0, k.0),
+      (refl, k.1),
+      λ cs ws rest e n l. behind-space vs.0 (spaced_text later) cs _ rest tt
+          (cut_name vs.0 (spaced_text later ++ cs) _ rest r.0.0 (tail-ends later cs e).name (k.2 cs ws rest e n l)),
+    )
 parts_cut (ANumber ∷ ps) vs r =
     let k = parts_cut ps vs.1 r.1 in
-    let later : List Piece = parts_pieces ps vs.1 [] in
-    ((vs.0, k.0), (refl, k.1), λ cs ws rest e n l. behind-space (decimal vs.0) (spaced_text later) cs _ rest tt
-        (cut_number vs.0 (spaced_text later ++ cs) _ rest r.0 (tail-ends later cs e).number (k.2 cs ws rest e n l)))
+    let later : List Piece = parts_pieces ps vs.1 [] in (
+      (vs.0, k.0),
+      (refl, k.1),
+      λ cs ws rest e n l. behind-space (decimal vs.0) (spaced_text later) cs _ rest tt
+          (cut_number vs.0 (spaced_text later ++ cs) _ rest r.0 (tail-ends later cs e).number (k.2 cs ws rest e n l)),
+    )
 parts_cut (Variable ∷ ps) vs r =
     let k = parts_cut ps vs.1 r.1 in
-    let later : List Piece = parts_pieces ps vs.1 [] in
-    ((vs.0, k.0), (refl, k.1), λ cs ws rest e n l. behind-space (39 ∷ vs.0) (spaced_text later) cs _ rest tt
-        (cut_variable vs.0 (spaced_text later ++ cs) _ rest r.0.0 (tail-ends later cs e).name (k.2 cs ws rest e n l)))
+    let later : List Piece = parts_pieces ps vs.1 [] in (
+      (vs.0, k.0),
+      (refl, k.1),
+      λ cs ws rest e n l. behind-space (39 ∷ vs.0) (spaced_text later) cs _ rest tt
+          (cut_variable vs.0 (spaced_text later ++ cs) _ rest r.0.0 (tail-ends later cs e).name (k.2 cs ws rest e n l)),
+    )
 parts_cut (Parameters ∷ ps) vs r =
     let later : List Piece = parts_pieces ps vs.1 [] in
     let k = parts_cut ps vs.1 (readable-behind vs.0 later r) in
     ((vs.0, k.0), alike-behind vs.0 (parts_pieces ps (args ps k.0) []) later k.1, variables-cut vs.0 later (parts_lexemes ps k.0) r k.2)
 parts_cut (AType ∷ ps) vs r =
     let k = parts_cut ps vs.1 r.1 in
-    let later : List Piece = parts_pieces ps vs.1 [] in
-    ((vs.0, k.0), (refl, k.1), λ cs ws rest e n l. behind-space (printed_piece (type_piece vs.0)) (spaced_text later) cs _ rest (type_clear vs.0 (parts_lexemes ps k.0 ws))
-        (cut_type vs.0 r.0 (spaced_text later ++ cs) (parts_lexemes ps k.0 ws) rest (tail-ends later cs e).name (k.2 cs ws rest e n l)))
+    let later : List Piece = parts_pieces ps vs.1 [] in (
+      (vs.0, k.0),
+      (refl, k.1),
+      λ cs ws rest e n l. behind-space (printed_piece (type_piece vs.0)) (spaced_text later) cs _ rest (type_clear vs.0 (parts_lexemes ps k.0 ws))
+          (cut_type vs.0 r.0 (spaced_text later ++ cs) (parts_lexemes ps k.0 ws) rest (tail-ends later cs e).name (k.2 cs ws rest e n l)),
+    )
 parts_cut (AStatement ∷ ps) vs r =
     let k = parts_cut ps vs.1 r.1 in
-    let later : List Piece = parts_pieces ps vs.1 [] in
-    ((read-as vs.0, k.0), (alike-readable vs.0 r.0, k.1), λ cs ws rest e n l. behind-space (printed_piece (term_piece vs.0)) (spaced_text later) cs _ rest (term_clear (read-as vs.0) (parts_lexemes ps k.0 ws))
-        (cut-readable vs.0 r.0 (spaced_text later ++ cs) (parts_lexemes ps k.0 ws) rest (tail-ends later cs e).name (k.2 cs ws rest e n l)))
+    let later : List Piece = parts_pieces ps vs.1 [] in (
+      (read-as vs.0, k.0),
+      (alike-readable vs.0 r.0, k.1),
+      λ cs ws rest e n l. behind-space (printed_piece (term_piece vs.0)) (spaced_text later) cs _ rest (term_clear (read-as vs.0) (parts_lexemes ps k.0 ws))
+          (cut-readable vs.0 r.0 (spaced_text later ++ cs) (parts_lexemes ps k.0 ws) rest (tail-ends later cs e).name (k.2 cs ws rest e n l)),
+    )
 parts_cut (ATerm ∷ ps) vs r =
     let k = parts_cut ps vs.1 r.1 in
-    let later : List Piece = parts_pieces ps vs.1 [] in
-    ((read-as vs.0, k.0), (alike-readable vs.0 r.0, k.1), λ cs ws rest e n l. behind-space (printed_piece (term_piece vs.0)) (spaced_text later) cs _ rest (term_clear (read-as vs.0) (parts_lexemes ps k.0 ws))
-        (cut-readable vs.0 r.0 (spaced_text later ++ cs) (parts_lexemes ps k.0 ws) rest (tail-ends later cs e).name (k.2 cs ws rest e n l)))
+    let later : List Piece = parts_pieces ps vs.1 [] in (
+      (read-as vs.0, k.0),
+      (alike-readable vs.0 r.0, k.1),
+      λ cs ws rest e n l. behind-space (printed_piece (term_piece vs.0)) (spaced_text later) cs _ rest (term_clear (read-as vs.0) (parts_lexemes ps k.0 ws))
+          (cut-readable vs.0 r.0 (spaced_text later ++ cs) (parts_lexemes ps k.0 ws) rest (tail-ends later cs e).name (k.2 cs ws rest e n l)),
+    )
 parts_cut (Exactly j ∷ ps) vs r =
     let k = parts_cut ps vs.1 r.1 in
-    let later : List Piece = parts_pieces ps vs.1 [] in
-    ((vs.0, k.0), (fixed-alike j, k.1), λ cs ws rest e n l. behind-space (printed_piece (fixed_piece j)) (spaced_text later) cs _ rest (fixed_clear j (parts_lexemes ps k.0 ws))
-        (fixed-cut j (spaced_text later ++ cs) (parts_lexemes ps k.0 ws) rest (tail-ends later cs e) (k.2 cs ws rest e n l)))
+    let later : List Piece = parts_pieces ps vs.1 [] in (
+      (vs.0, k.0),
+      (fixed-alike j, k.1),
+      λ cs ws rest e n l. behind-space (printed_piece (fixed_piece j)) (spaced_text later) cs _ rest (fixed_clear j (parts_lexemes ps k.0 ws))
+          (fixed-cut j (spaced_text later ++ cs) (parts_lexemes ps k.0 ws) rest (tail-ends later cs e) (k.2 cs ws rest e n l)),
+    )
 
 -- ---- rows
 
@@ -282,9 +305,12 @@ pub row_cut : {C : Type 0} (r : Row C) (vs : Args r.parts) → is_ascii_name r.w
     × ((cs : List ℕ) (ws : List Lexeme) (rest : List ℕ) → Cuts cs ws rest → Cuts (words (map printed_piece (row_pieces r vs)) ++ 59 ∷ cs) (row_lexemes r ts ws) rest)
 row_cut r vs h q =
     let k = parts_cut r.parts vs q in
-    let later : List Piece = parts_pieces r.parts vs [] in
-    (k.0, (refl, k.1), λ cs ws rest l.
-        let closed : Cuts (59 ∷ cs) (a_sign Semicolon ∷ ws) rest = cut-sign Semicolon 59 semicolon_sign cs ws rest l in
-        let inner : Cuts (spaced_text later ++ 59 ∷ cs) (parts_lexemes r.parts k.0 (a_sign Semicolon ∷ ws)) rest = k.2 (59 ∷ cs) (a_sign Semicolon ∷ ws) rest (semicolon_ends cs) tt closed in
-        subst (λ (z : List ℕ). Cuts z (row_lexemes r k.0 ws) rest) (sym (ap (λ (z : List ℕ). z ++ 59 ∷ cs) (words_spaced r.word later) ∙ append_assoc r.word (spaced_text later) (59 ∷ cs)))
-        (cut_name r.word (spaced_text later ++ 59 ∷ cs) (parts_lexemes r.parts k.0 (a_sign Semicolon ∷ ws)) rest (ascii_name r.word h) (tail-ends later (59 ∷ cs) (semicolon_ends cs)).name inner))
+    let later : List Piece = parts_pieces r.parts vs [] in (
+      k.0,
+      (refl, k.1),
+      λ cs ws rest l.
+          let closed : Cuts (59 ∷ cs) (a_sign Semicolon ∷ ws) rest = cut-sign Semicolon 59 semicolon_sign cs ws rest l in
+          let inner : Cuts (spaced_text later ++ 59 ∷ cs) (parts_lexemes r.parts k.0 (a_sign Semicolon ∷ ws)) rest = k.2 (59 ∷ cs) (a_sign Semicolon ∷ ws) rest (semicolon_ends cs) tt closed in
+          subst (λ (z : List ℕ). Cuts z (row_lexemes r k.0 ws) rest) (sym (ap (λ (z : List ℕ). z ++ 59 ∷ cs) (words_spaced r.word later) ∙ append_assoc r.word (spaced_text later) (59 ∷ cs)))
+          (cut_name r.word (spaced_text later ++ 59 ∷ cs) (parts_lexemes r.parts k.0 (a_sign Semicolon ∷ ws)) rest (ascii_name r.word h) (tail-ends later (59 ∷ cs) (semicolon_ends cs)).name inner),
+    )

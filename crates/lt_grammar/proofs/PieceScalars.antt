@@ -1,6 +1,6 @@
 -- What is printed of items are characters that bytes encode.
-use Rattle.std.proofs.Common.{◌≡◌, ℕ, ◌<◌, ◌∙◌, ap, sym, refl, subst, true, List, [], ◌∷◌, ◌++◌, codes, arith}
-use Rattle.std.specs.Prelude.{◌^◌, map}
+use Rattle.std.proofs.Common.{◌∙◌, ap, refl, List, [], ◌∷◌, ◌++◌, codes, arith}
+use Rattle.std.specs.Prelude.{map}
 use Rattle.std.specs.List.{flat_map}
 use Rattle.std.specs.Str.{all_scalars}
 use Rattle.lt_texts.specs.declared.lexical.TokenKind.{TokenKind}
@@ -10,7 +10,7 @@ use Rattle.lt_definitions.specs.Terms.{TermTree}
 use Rattle.lt_definitions.specs.Rules.{Rule, by_assume, by_weaken, by_refl, by_sym, by_trans, by_cong, by_abs, by_beta, by_eta, by_eqmp, by_impI, by_mp, by_allI, by_allE, by_iff, by_inst, by_tinst, by_select, by_ccontr, by_thm}
 use Rattle.lt_definitions.specs.Items.{Item, type_item, const_item, axiom_item, def_item, typedef_item, lemma_item}
 use Rattle.lt_definitions.specs.Printing.{words, printed_rule, printed_head, printed_lines, printed_item, report}
-use Rattle.lt_texts.specs.Pieces.{Piece, word_piece, sign_piece, name_piece, number_piece, variable_piece, type_piece, statement_piece, term_piece, semicolon, rule_text, line_text, head_text, item_text, printed_sign, printed_piece}
+use Rattle.lt_texts.specs.Pieces.{Piece, word_piece, sign_piece, name_piece, number_piece, variable_piece, type_piece, statement_piece, term_piece, semicolon, rule_text, line_text, head_text, printed_sign, printed_piece}
 use Rattle.lt_texts.specs.Named.{IsReadablePiece, AreReadable, IsReadableItem, AreReadableItems}
 use Rattle.lt_grammar.proofs.Scalars.{AreScalars, scalars_append, decimal_scalars, type_scalars, term_scalars}
 use Rattle.lt_grammar.proofs.PrintedPieces.{printed_rule_pieces, printed_head_pieces}

@@ -1,8 +1,7 @@
 -- What is printed of items is read back as items alike.
-use Rattle.std.proofs.Common.{lit<, ◌≡◌, ℕ, ◌<◌, ◌∙◌, ap, sym, refl, subst, inl, inr, Bool, true, Some, List, [], ◌∷◌, ◌++◌, length, codes, arith, append_assoc, eq-eqb}
+use Rattle.std.proofs.Common.{◌≡◌, ℕ, ◌∙◌, ap, sym, refl, subst, inl, inr, Bool, true, Some, List, [], ◌∷◌, ◌++◌, length, codes, append_assoc, eq-eqb}
 use Rattle.std.specs.Prelude.{◌⊎◌, if◌then◌else◌, map, encode_utf8_all, IsUtf8}
 use Rattle.std.specs.List.{flat_map}
-use Rattle.std.specs.Fmt.{decimal}
 use Rattle.std.specs.Str.{all_scalars}
 use Rattle.std.proofs.lemmas.Str.{utf8_valid_len-IsUtf8}
 use Rattle.lt_texts.specs.declared.lexical.TokenKind.TheVariants.{Number, OpenBrace, CloseBrace, Semicolon}
@@ -11,15 +10,14 @@ use Rattle.lt_definitions.specs.Types.{Chars}
 use Rattle.lt_definitions.specs.Terms.{TermTree}
 use Rattle.lt_definitions.specs.Rules.{Rule}
 use Rattle.lt_definitions.specs.Items.{Item, type_item, const_item, axiom_item, def_item, typedef_item, lemma_item}
-use Rattle.lt_definitions.specs.Characters.{is_name}
-use Rattle.lt_definitions.specs.Printing.{words, printed_rule, printed_head, printed_lines, printed_item, report, printed_term}
+use Rattle.lt_definitions.specs.Printing.{words, printed_rule, printed_head, printed_lines, printed_item, report}
 use Rattle.lt_texts.specs.Texts.{Left, left_of, end_of, lexed}
-use Rattle.lt_texts.specs.Lexemes.{Lexeme, a_name, a_number, a_sign, Spans, HasLexemes}
+use Rattle.lt_texts.specs.Lexemes.{Lexeme, a_number, a_sign, Spans}
 use Rattle.lt_texts.specs.Commands.{Command, item_command}
-use Rattle.lt_texts.specs.Pieces.{AreWritten, Piece, word_piece, sign_piece, name_piece, statement_piece, semicolon, keyword, colon, rule_text, line_text, head_text, item_text, command_text, printed_piece}
+use Rattle.lt_texts.specs.Pieces.{AreWritten, Piece, sign_piece, name_piece, statement_piece, semicolon, colon, rule_text, line_text, head_text, item_text, printed_piece}
 use Rattle.lt_texts.specs.Writing.{term_of_text}
-use Rattle.lt_texts.specs.Forms.{Form, plain_text, Sentence, header_again, a_command, sentence_text, sentences_text, IsAllowed, AreAllowed, commands_of, IsText, HasPlainItems}
-use Rattle.lt_texts.specs.Named.{IsName, IsReadable, AreReadable, IsReadableItem, AreReadableItems, IsAlikePiece, AreAlike, AreAlikeItems}
+use Rattle.lt_texts.specs.Forms.{Form, plain_text, header_again, a_command, sentence_text, sentences_text, IsAllowed, AreAllowed, commands_of, HasPlainItems}
+use Rattle.lt_texts.specs.Named.{AreReadable, IsReadableItem, AreReadableItems, AreAlike, AreAlikeItems}
 use Rattle.lt_texts.proofs.Readings.{lexemes_read}
 use Rattle.lt_texts.proofs.NextTokens.{all_ahead}
 use Rattle.lt_grammar.specs.declared.words.RuleWord.{RuleWord}
@@ -28,13 +26,11 @@ use Rattle.lt_grammar.specs.declared.words.ItemWord.{ItemWord}
 use Rattle.lt_grammar.specs.declared.words.ItemWord.TheVariants.{TypeItem, Const, Axiom, Def, Typedef}
 use Rattle.lt_grammar.specs.Rows.{Texts, parts_lexemes}
 use Rattle.lt_grammar.specs.Table.{rule_row, item_row, lemma_parts}
-use Rattle.lt_grammar.specs.RowTexts.{row_lexemes, row_meaning, LineText, line, lines_lexemes, rule_of_text, PartText, header, item, lemma, command, text_lexemes, texts_lexemes, sentence_of}
-use Rattle.lt_grammar.proofs.OneWay.{IsClear, term_clear}
+use Rattle.lt_grammar.specs.RowTexts.{row_lexemes, row_meaning, LineText, line, lines_lexemes, rule_of_text, PartText, header, item, lemma, text_lexemes, texts_lexemes, sentence_of}
+use Rattle.lt_grammar.proofs.OneWay.{IsClear}
 use Rattle.lt_grammar.proofs.RowPieces.{Args, args, parts_pieces, row_pieces, made_of, meaning-made, rule-text, rule-row, RowOfRule, item-text, join_written, sentence_written}
-use Rattle.lt_grammar.proofs.Shown.{shown, none_loose, shown_is_alpha}
 use Rattle.lt_grammar.proofs.Cuts.{Cuts, cut_name, cut-sign, spaced, nothing_cut, cuts_spans, space-stops}
-use Rattle.lt_grammar.proofs.Scalars.{AreScalars, scalars_append}
-use Rattle.lt_grammar.proofs.PieceCuts.{is_ascii_name, ascii_name, cut_number, open_brace, close_brace, semicolon_sign, fed, semicolon_ends, space_ends, spaced_text, parts_cut, words_spaced, row_cut}
+use Rattle.lt_grammar.proofs.PieceCuts.{is_ascii_name, ascii_name, open_brace, close_brace, semicolon_sign, fed, space_ends, spaced_text, parts_cut, words_spaced, row_cut}
 use Rattle.lt_grammar.proofs.PieceScalars.{report_scalars}
 use Rattle.lt_grammar.proofs.PrintedPieces.{printed_rule_pieces, printed_head_pieces}
 
@@ -113,7 +109,7 @@ line-by-row w vs r =
       w,
       k.0,
       alike_append (rule_text (rule_of_text (line w k.0))) (rule_text (made_of row vs)) (semicolon ∷ []) (semicolon ∷ [])
-      (subst (λ (q : List Piece). AreAlike q (rule_text (made_of row vs))) (sym mine) (subst (AreAlike (row_pieces row (args row.parts k.0))) (sym (rule-text w vs)) k.1)) (refl, tt),
+          (subst (λ (q : List Piece). AreAlike q (rule_text (made_of row vs))) (sym mine) (subst (AreAlike (row_pieces row (args row.parts k.0))) (sym (rule-text w vs)) k.1)) (refl, tt),
       λ cs ws rest l. subst (λ (z : List ℕ). Cuts (z ++ 59 ∷ cs) (row_lexemes row k.0 ws) rest)
           (sym (printed_rule_pieces (made_of row vs) ∙ ap (λ (q : List Piece). words (map printed_piece q)) (rule-text w vs))) (k.2 cs ws rest l),
     )
@@ -284,7 +280,15 @@ printed_items_are_read items r =
     let end : lexed (record s { ahead = 10 ∷ [] }) ≡ End = ap (λ (y : Bool). if y then End else BadByte (end_of s)) (eq-eqb (end_of s) (length text) ends) in (
       k.1,
       k.3,
-      (ws, lexemes_read text ws (record s { ahead = 10 ∷ [] }, spans, end),
-        (map sentence_of k.0, k.4, join_written (sentence_text plain_text header_again) (sentences_text plain_text (map sentence_of k.0)) ws (texts_lexemes plain_text k.0 []) []
-        (sentence_written plain_text header (texts_lexemes plain_text k.0 [])) (all-written plain_text k.0), sym (ap commands_of k.2 ∙ items-of k.1))),
+      (
+        ws,
+        lexemes_read text ws (record s { ahead = 10 ∷ [] }, spans, end),
+        (
+          map sentence_of k.0,
+          k.4,
+          join_written (sentence_text plain_text header_again) (sentences_text plain_text (map sentence_of k.0)) ws (texts_lexemes plain_text k.0 []) []
+              (sentence_written plain_text header (texts_lexemes plain_text k.0 [])) (all-written plain_text k.0),
+          sym (ap commands_of k.2 ∙ items-of k.1),
+        ),
+      ),
     )

@@ -1,11 +1,11 @@
 -- What is printed of a line or an item are its pieces, with one space between.
-use Rattle.std.proofs.Common.{◌≡◌, ℕ, ◌∙◌, ap, refl, List, [], ◌∷◌, ◌++◌, codes}
+use Rattle.std.proofs.Common.{◌≡◌, ap, refl, List, [], ◌∷◌, ◌++◌, codes}
 use Rattle.std.specs.Prelude.{map}
 use Rattle.lt_definitions.specs.Types.{Chars}
 use Rattle.lt_definitions.specs.Terms.{TermTree}
 use Rattle.lt_definitions.specs.Rules.{Rule, by_assume, by_weaken, by_refl, by_sym, by_trans, by_cong, by_abs, by_beta, by_eta, by_eqmp, by_impI, by_mp, by_allI, by_allE, by_iff, by_inst, by_tinst, by_select, by_ccontr, by_thm}
 use Rattle.lt_definitions.specs.Items.{Item, type_item, const_item, axiom_item, def_item, typedef_item, lemma_item}
-use Rattle.lt_definitions.specs.Printing.{words, printed_rule, printed_head, printed_params, printed_term}
+use Rattle.lt_definitions.specs.Printing.{words, printed_rule, printed_head, printed_params}
 use Rattle.lt_texts.specs.Pieces.{Piece, variable_piece, statement_piece, name_piece, keyword, colon, rule_text, head_text, printed_piece}
 
 pub printed_rule_pieces : (r : Rule TermTree) → printed_rule r ≡ words (map printed_piece (rule_text r))

@@ -1,6 +1,6 @@
 -- What is printed is read back.
-use Rattle.std.proofs.Common.{◌≡◌, ℕ, ◌<◌, ap, sym, refl, subst, true, Bool, List, [], ◌++◌, length, append-nil, arith}
-use Rattle.std.specs.Prelude.{◌^◌, if◌then◌else◌, encode_utf8_all, IsUtf8}
+use Rattle.std.proofs.Common.{◌≡◌, ℕ, ap, sym, refl, subst, true, Bool, List, [], ◌++◌, length, append-nil, arith}
+use Rattle.std.specs.Prelude.{if◌then◌else◌, encode_utf8_all, IsUtf8}
 use Rattle.std.specs.Str.{all_scalars}
 use Rattle.std.proofs.Common.{eq-eqb}
 use Rattle.std.proofs.lemmas.Str.{utf8_valid_len-IsUtf8}
@@ -10,7 +10,7 @@ use Rattle.lt_definitions.specs.Alpha.{IsAlphaEqual}
 use Rattle.lt_texts.specs.Lexemes.{Lexeme, Spans, HasLexemes}
 use Rattle.lt_definitions.specs.Printing.{printed_type, printed_term}
 use Rattle.lt_texts.specs.Spelling.{stops}
-use Rattle.lt_definitions.specs.Terms.{TermTree, HasNoLooseNames}
+use Rattle.lt_definitions.specs.Terms.{TermTree}
 use Rattle.lt_texts.specs.Texts.{Left, end_of}
 use Rattle.lt_definitions.specs.Types.{TypeTree}
 use Rattle.lt_texts.proofs.NextTokens.{all_ahead}
@@ -44,7 +44,7 @@ pub printed_terms_are_read : (t : TermTree) → IsReadable t → (x : TermText) 
 printed_terms_are_read t (l, n, m) = (
   shown t [] no_more_terms,
   whole (printed_term [] t) (term_lexemes (shown t [] no_more_terms) []) (term_scalars t (l, n, m))
-  (cut-whole (printed_term [] t) (term_lexemes (shown t [] no_more_terms)) (cut_term t [] (n, none_loose t l, omega (arith, m)))),
+      (cut-whole (printed_term [] t) (term_lexemes (shown t [] no_more_terms)) (cut_term t [] (n, none_loose t l, omega (arith, m)))),
   shown_is_alpha t l m,
 )
 

@@ -1,5 +1,5 @@
 -- Each row of the reader's table agrees with the pieces of its line, item or command: one line a row.
-use Rattle.std.proofs.Common.{◌≡◌, ℕ, ◌∙◌, ap, sym, refl, subst, inl, inr, true, List, [], ◌∷◌, ◌++◌, append_assoc}
+use Rattle.std.proofs.Common.{◌≡◌, ℕ, ◌∙◌, ap, sym, refl, subst, inl, inr, List, [], ◌∷◌, ◌++◌, append_assoc}
 use Rattle.std.specs.Prelude.{◌⊎◌, map, codes}
 use Rattle.std.specs.List.{flat_map}
 use Rattle.lt_texts.specs.declared.lexical.TokenKind.TheVariants as kinds
@@ -9,7 +9,7 @@ use Rattle.lt_definitions.specs.Rules.{Rule, by_assume, by_weaken, by_refl, by_s
 use Rattle.lt_definitions.specs.Items.{Item, type_item, const_item, axiom_item, def_item, typedef_item, lemma_item}
 use Rattle.lt_texts.specs.Lexemes.{Lexeme, a_name, a_variable, a_sign}
 use Rattle.lt_texts.specs.Commands.{Command, item_command, law_command, corr_command, relator_command, property_command, domain_command, rule_command, lifting_command, lifting_typedef_command, quotient_type_command, lift_command, parametric_command, param_rule_command, equiv_command, implies_command, carry_command, abs_eq_command, rep_eq_command}
-use Rattle.lt_texts.specs.Writing.{TermText, term_of_text, type_lexemes, term_lexemes}
+use Rattle.lt_texts.specs.Writing.{term_of_text, type_lexemes, term_lexemes}
 use Rattle.lt_texts.specs.Pieces.{Piece, word_piece, sign_piece, name_piece, number_piece, variable_piece, type_piece, statement_piece, term_piece, keyword, semicolon, colon, rule_text, line_text, item_text, command_text, IsWritten, AreWritten}
 use Rattle.lt_texts.specs.Forms.{Form, may_stand, first_word, Sentence, header_again, a_command, sentence_text, IsAllowed}
 use Rattle.lt_grammar.specs.declared.words.Fixed.{Fixed}
@@ -22,8 +22,8 @@ use Rattle.lt_grammar.specs.declared.words.ItemWord.{ItemWord}
 use Rattle.lt_grammar.specs.declared.words.ItemWord.TheVariants.{TypeItem, Const, Axiom, Def, Typedef}
 use Rattle.lt_grammar.specs.declared.words.CommandWord.{CommandWord}
 use Rattle.lt_grammar.specs.declared.words.CommandWord.TheVariants.{Law, Corr, Relator, Property, Domain, Rule as RuleCommand, Lifting, LiftingTypedef, QuotientType, Lift, Parametric, ParamRule, Equiv, Implies, Carry, AbsEq, RepEq}
-use Rattle.lt_grammar.specs.Rows.{Row, fixed, Text, number, variables_lexemes, part_lexemes, From, given, Texts, parts_lexemes, FromAll, given_all}
-use Rattle.lt_grammar.specs.Table.{rule_row, item_row, lemma_parts, command_row}
+use Rattle.lt_grammar.specs.Rows.{Row, fixed, Text, number, variables_lexemes, From, Texts, parts_lexemes, FromAll, given_all}
+use Rattle.lt_grammar.specs.Table.{rule_row, item_row, command_row}
 use Rattle.lt_grammar.specs.RowTexts.{row_lexemes, row_meaning, LineText, line, lines_lexemes, rule_of_text, PartText, header, item, lemma, command, text_lexemes, MayStand, sentence_of}
 
 -- ---- pieces in a row
@@ -173,9 +173,13 @@ written_pieces (Variable ∷ ps) vs more ws rest h =
     ((vs.0, r.0), λ i. (vs.0, r.1 i), r.2, h.1 ∙ ap (λ (z : List Lexeme). a_variable vs.0 ∷ z) r.3, r.4)
 written_pieces (Parameters ∷ ps) vs more ws rest h =
     let v = written-variables vs.0 (colon ∷ parts_pieces ps vs.1 more) ws rest h in
-    let r = written_pieces ps vs.1 more v.2.0 rest v.2.2 in
-    ((vs.0, r.0), λ i. (vs.0, r.1 i), r.2,
-      v.1 ∙ ap (variables_lexemes vs.0) (v.2.1 ∙ ap (λ (z : List Lexeme). a_sign kinds.Colon ∷ z) r.3), r.4)
+    let r = written_pieces ps vs.1 more v.2.0 rest v.2.2 in (
+      (vs.0, r.0),
+      λ i. (vs.0, r.1 i),
+      r.2,
+      v.1 ∙ ap (variables_lexemes vs.0) (v.2.1 ∙ ap (λ (z : List Lexeme). a_sign kinds.Colon ∷ z) r.3),
+      r.4,
+    )
 written_pieces (AType ∷ ps) vs more ws rest h =
     let r = written_pieces ps vs.1 more h.0 rest h.2 in
     ((vs.0, r.0), λ i. (vs.0, r.1 i), r.2, h.1 ∙ ap (type_lexemes vs.0) r.3, r.4)
@@ -323,10 +327,13 @@ command-row (rep_eq_command c) = inl (RepEq, (c, tt), refl)
 row-written : {C : Type 0} (r : Row C) (text : List Piece) (ts : Texts r.parts) (rest : List Lexeme) → text ≡ row_pieces r (args r.parts ts)
     → AreWritten (text ++ semicolon ∷ []) (row_lexemes r ts rest) rest
 row-written r text ts rest e =
-    subst (λ (q : List Piece). AreWritten (q ++ semicolon ∷ []) (row_lexemes r ts rest) rest) (sym e)
-    (_, refl, subst (λ (q : List Piece). AreWritten q (parts_lexemes r.parts ts (a_sign kinds.Semicolon ∷ rest)) rest)
-    (sym (pieces-append r.parts (args r.parts ts) [] (semicolon ∷ [])))
-    (pieces_written r.parts ts (semicolon ∷ []) (a_sign kinds.Semicolon ∷ rest) rest (rest, refl, refl)))
+    subst (λ (q : List Piece). AreWritten (q ++ semicolon ∷ []) (row_lexemes r ts rest) rest) (sym e) (
+      _,
+      refl,
+      subst (λ (q : List Piece). AreWritten q (parts_lexemes r.parts ts (a_sign kinds.Semicolon ∷ rest)) rest)
+          (sym (pieces-append r.parts (args r.parts ts) [] (semicolon ∷ [])))
+          (pieces_written r.parts ts (semicolon ∷ []) (a_sign kinds.Semicolon ∷ rest) rest (rest, refl, refl)),
+    )
 
 written-row : {C : Type 0} (r : Row C) (text : List Piece) (vs : Args r.parts) (ws rest : List Lexeme) → text ≡ row_pieces r vs → AreWritten (text ++ semicolon ∷ []) ws rest
     → (ts : Texts r.parts) × (args r.parts ts ≡ vs) × (ws ≡ row_lexemes r ts rest)
@@ -399,9 +406,27 @@ pub sentence_written : (f : Form) (p : PartText) (rest : List Lexeme) → AreWri
 sentence_written f header rest = (_, refl, (_, refl, (_, refl, refl)))
 sentence_written f (item w ts) rest = row-written (item_row w) (command_text (item_command (row_meaning (item_row w) ts))) ts rest (item-row-text w ts)
 sentence_written f (lemma l p lines) rest =
-    subst (λ (q : List Piece). AreWritten q (text_lexemes f (lemma l p lines) rest) rest) (sym (lemma-pieces l (term_of_text p) (map rule_of_text lines)))
-    (_, refl, (_, refl, (_, refl, (_, (p, refl, refl), (_, refl,
-      lines_written lines (sign_piece kinds.CloseBrace ∷ semicolon ∷ []) (a_sign kinds.CloseBrace ∷ a_sign kinds.Semicolon ∷ rest) rest (_, refl, (rest, refl, refl)))))))
+    subst (λ (q : List Piece). AreWritten q (text_lexemes f (lemma l p lines) rest) rest) (sym (lemma-pieces l (term_of_text p) (map rule_of_text lines))) (
+      _,
+      refl,
+      (
+        _,
+        refl,
+        (
+          _,
+          refl,
+          (
+            _,
+            (p, refl, refl),
+            (
+              _,
+              refl,
+              lines_written lines (sign_piece kinds.CloseBrace ∷ semicolon ∷ []) (a_sign kinds.CloseBrace ∷ a_sign kinds.Semicolon ∷ rest) rest (_, refl, (rest, refl, refl)),
+            ),
+          ),
+        ),
+      ),
+    )
 sentence_written f (command w ts) rest = row-written (command_row w) (command_text (row_meaning (command_row w) ts)) ts rest (command-row-text w ts)
 
 pub may_allowed : (f : Form) (p : PartText) → MayStand f p → IsAllowed f (sentence_of p)
@@ -440,11 +465,13 @@ lemma-way f l t rules ws rest h =
     let a = g.2 in let b = a.2 in let c = b.2 in let d = c.2 in
     let x = c.1 in
     let r = written_lines rules (sign_piece kinds.CloseBrace ∷ semicolon ∷ []) d.0 rest d.2 in
-    let z = r.4 in let y = z.2 in
-    (lemma l x.0 r.0, λ i. a_command (item_command (lemma_item l (x.1 i) (r.1 i))),
+    let z = r.4 in let y = z.2 in (
+      lemma l x.0 r.0,
+      λ i. a_command (item_command (lemma_item l (x.1 i) (r.1 i))),
       g.1 ∙ ap (λ (q : List Lexeme). a_name (codes "lemma") ∷ q) (a.1 ∙ ap (λ (q : List Lexeme). a_name l ∷ q) (b.1 ∙ ap (λ (q : List Lexeme). a_sign kinds.Colon ∷ q)
-      (x.2 ∙ ap (term_lexemes x.0) (d.1 ∙ ap (λ (q : List Lexeme). a_sign kinds.OpenBrace ∷ q)
-      (r.3 ∙ ap (lines_lexemes r.0) (z.1 ∙ ap (λ (q : List Lexeme). a_sign kinds.CloseBrace ∷ q) (y.1 ∙ ap (λ (q : List Lexeme). a_sign kinds.Semicolon ∷ q) y.2))))))))
+          (x.2 ∙ ap (term_lexemes x.0) (d.1 ∙ ap (λ (q : List Lexeme). a_sign kinds.OpenBrace ∷ q)
+          (r.3 ∙ ap (lines_lexemes r.0) (z.1 ∙ ap (λ (q : List Lexeme). a_sign kinds.CloseBrace ∷ q) (y.1 ∙ ap (λ (q : List Lexeme). a_sign kinds.Semicolon ∷ q) y.2))))))),
+    )
 
 by-row : (f : Form) (c : Command) (ws rest : List Lexeme) → RowOfCommand c → AreWritten (sentence_text f (a_command c)) ws rest → Way f (a_command c) ws rest
 by-row f c ws rest (inl r) h =

@@ -1,5 +1,5 @@
 -- No two ways of writing lines or sentences have the same lexemes.
-use Rattle.std.proofs.Common.{◌≡◌, ℕ, List, [], ◌∷◌, refl, sym, ap, ◌∙◌, subst}
+use Rattle.std.proofs.Common.{◌≡◌, List, [], ◌∷◌, refl}
 use Rattle.lt_texts.specs.declared.lexical.TokenKind.TheVariants.{OpenBrace, CloseBrace, Semicolon}
 use Rattle.lt_texts.specs.Lexemes.{Lexeme, a_sign}
 use Rattle.lt_texts.specs.Forms.{Form}
@@ -11,7 +11,7 @@ use Rattle.lt_grammar.specs.declared.words.Head.TheVariants.{Header, Lemma, Item
 use Rattle.lt_grammar.specs.Rows.{parts_lexemes}
 use Rattle.lt_grammar.specs.Table.{rule_row, item_row, lemma_parts, command_row}
 use Rattle.lt_grammar.specs.Words.{rule_word, head_word}
-use Rattle.lt_grammar.specs.RowTexts.{LineText, line, lines_lexemes, PartText, header, item, lemma, command, text_lexemes, texts_lexemes, MayStand, MayStandAll}
+use Rattle.lt_grammar.specs.RowTexts.{LineText, line, lines_lexemes, PartText, header, item, lemma, command, text_lexemes, MayStand}
 use Rattle.lt_grammar.proofs.Distinct.{IsHead, one_rule, one_head}
 use Rattle.lt_grammar.proofs.OneWay.{one_texts, one_row}
 

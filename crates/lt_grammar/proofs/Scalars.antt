@@ -1,6 +1,6 @@
 -- What is printed are characters that bytes encode.
-use Rattle.std.proofs.Common.{◌≡◌, ℕ, ◌+◌, ◌<◌, ◌≤◌, ◌∙◌, ap, sym, refl, true, false, List, [], ◌∷◌, ◌++◌, length, codes, arith}
-use Rattle.std.specs.Prelude.{◌&&◌, ◌^◌}
+use Rattle.std.proofs.Common.{◌≡◌, ℕ, ◌+◌, ◌<◌, ◌∙◌, ap, refl, true, false, List, [], ◌∷◌, ◌++◌, length, codes, arith}
+use Rattle.std.specs.Prelude.{◌^◌}
 use Rattle.std.specs.Fmt.{decimal}
 use Rattle.std.specs.Str.{all_scalars}
 use Rattle.std.specs.Str.Parse.{AllDigits}
@@ -12,7 +12,7 @@ use Rattle.lt_definitions.specs.Types.{Chars, TypeTree, TypeTrees, type_variable
 use Rattle.lt_definitions.specs.Terms.{TermTree, free_variable, bound_name, constant, application, abstraction, has_loose}
 use Rattle.lt_definitions.specs.Printing.{printed_type, printed_types, printed_constant, printed_later_arguments, printed_bound, printed_part, printed_term}
 use Rattle.lt_texts.specs.Named.{IsTypeNamed, AreTypesNamed, IsNamed, IsReadable, binder_count}
-use Rattle.lt_grammar.proofs.Shown.{name_at, IsBoundIn, printed_at, or_left, or_right, own_name, bound_body, none_loose}
+use Rattle.lt_grammar.proofs.Shown.{IsBoundIn, printed_at, or_left, or_right, own_name, bound_body, none_loose}
 
 abbrev pub AreScalars : List ℕ → Type 0
 AreScalars cs = all_scalars cs ≡ true

@@ -1,19 +1,16 @@
 -- No lexemes are written of two sentences, and what is written of sentences in a row ends in one way.
-use Rattle.std.proofs.Common.{◌≡◌, ℕ, ◌∙◌, ap, sym, refl, subst, inl, inr, true, List, [], ◌∷◌, ◌++◌, append_assoc, append-nil}
-use Rattle.std.specs.Prelude.{◌⊎◌, map}
-use Rattle.std.specs.List.{flat_map}
+use Rattle.std.proofs.Common.{◌≡◌, ℕ, ◌∙◌, ap, sym, refl, subst, List, [], ◌∷◌, ◌++◌, append-nil}
+use Rattle.std.specs.Prelude.{map}
 use Rattle.lt_definitions.specs.Items.{Item}
 use Rattle.lt_texts.specs.Lexemes.{Lexeme}
-use Rattle.lt_texts.specs.Reading.{IsRead}
 use Rattle.lt_texts.specs.Commands.{Command, item_command}
-use Rattle.lt_texts.specs.Pieces.{Piece, AreWritten}
-use Rattle.lt_texts.specs.Forms.{Form, plain_text, Sentence, header_again, a_command, header_text, sentence_text, sentences_text, IsAllowed, AreAllowed, commands_of, IsText, HasCommands, HasPlainItems}
-use Rattle.lt_texts.specs.WrongPlaces.{IsWhole, IsRest, IsFront, AreHeaders}
+use Rattle.lt_texts.specs.Pieces.{AreWritten}
+use Rattle.lt_texts.specs.Forms.{Form, plain_text, Sentence, header_again, sentence_text, sentences_text, IsAllowed, AreAllowed, commands_of, IsText, HasCommands, HasPlainItems}
 use Rattle.lt_texts.proofs.Readings.{read_once}
-use Rattle.lt_grammar.specs.RowTexts.{PartText, text_lexemes, MayStand, sentence_of}
+use Rattle.lt_grammar.specs.RowTexts.{text_lexemes, sentence_of}
 use Rattle.lt_grammar.proofs.Splits.{text_splits}
 use Rattle.lt_grammar.proofs.RowReading.{one_part, part_not_empty}
-use Rattle.lt_grammar.proofs.RowPieces.{join_written, split_written, sentence_written, written_sentence, may_allowed, allowed_may}
+use Rattle.lt_grammar.proofs.RowPieces.{join_written, split_written, sentence_written, written_sentence, allowed_may}
 
 -- ---- one sentence
 

@@ -1,15 +1,12 @@
 -- One reading of a type and of a term, and how a text goes on from command to command.
 use Rattle.std.proofs.Common.{◌≡◌, ℕ, ◌∙◌, ap, sym, refl, subst, List, [], ◌∷◌, ◌++◌, append-nil}
-use Rattle.lt_texts.specs.declared.lexical.TokenKind.{TokenKind}
 use Rattle.lt_texts.specs.declared.lexical.TokenKind.TheVariants as kinds
 use Rattle.lt_definitions.specs.Types.{TypeTree}
 use Rattle.lt_texts.specs.Texts.{Left, left_of}
 use Rattle.lt_texts.specs.Lexemes.{Lexeme, a_name, a_variable, a_number, a_sign}
-use Rattle.lt_texts.specs.Reading.{Reads, IsRead}
 use Rattle.lt_texts.specs.Commands.{Command}
-use Rattle.lt_texts.specs.Writing.{TermText, term_of_text, type_lexemes, term_lexemes}
-use Rattle.lt_texts.specs.Pieces.{AreWritten}
-use Rattle.lt_texts.specs.Forms.{Form, Sentence, header_again, a_command, header_text, sentence_text, sentences_text, IsAllowed, AreAllowed, commands_of, HasCommands}
+use Rattle.lt_texts.specs.Writing.{TermText, type_lexemes, term_lexemes}
+use Rattle.lt_texts.specs.Forms.{Form, Sentence, header_again, a_command, header_text, sentence_text, sentences_text, AreAllowed, commands_of, HasCommands}
 use Rattle.lt_texts.specs.WrongPlaces.{IsClear, AreHeaders, Stands, Begins, NextCommand, AtEnd}
 use Rattle.lt_texts.proofs.ReadingOrder.{reads_append}
 use Rattle.lt_grammar.proofs.OneWay as ways

@@ -1,5 +1,5 @@
 -- Whole texts by the reader's rows: lines and sentences in the ways in which they are written, and what they stand for.
-use Rattle.std.specs.Prelude.{◌≡◌, ℕ, List, [], ◌∷◌, Bool, true, map, codes}
+use Rattle.std.specs.Prelude.{◌≡◌, List, [], ◌∷◌, true, map, codes}
 use Rattle.lt_texts.specs.declared.lexical.TokenKind.TheVariants.{OpenBrace, CloseBrace, Semicolon}
 use Rattle.lt_definitions.specs.Types.{Chars}
 use Rattle.lt_definitions.specs.Terms.{TermTree}

@@ -13,8 +13,8 @@ use Rattle.lt_script.specs.declared.mode.Mode.TheVariants.{Plain, Theory}
 use Rattle.lt_grammar.specs.declared.words.Head.{Head}
 use Rattle.lt_grammar.specs.declared.words.Head.TheVariants.{Header}
 use Rattle.lt_grammar.specs.RowTexts.{PartText, header, text_lexemes, texts_lexemes, MayStand, MayStandAll}
-use Rattle.lt_grammar.specs.Words.{head_of, head_word, heads}
-use Rattle.lt_grammar.proofs.Distinct.{IsHead, found_has, head_found}
+use Rattle.lt_grammar.specs.Words.{head_of, head_word}
+use Rattle.lt_grammar.proofs.Distinct.{IsHead, found_head, head_found}
 use Rattle.lt_grammar.proofs.RowReading.{one_part, part_not_empty}
 use Rattle.lt_script.specs.declared.symbol.Symbol.{Symbol}
 use Rattle.lt_script.specs.declared.symbol.Symbol.TheVariants.{APart, AHeader}

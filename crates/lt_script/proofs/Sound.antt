@@ -23,8 +23,8 @@ use Rattle.lt_texts.specs.Writing.{type_lexemes, types_lexemes, arguments_lexeme
 use Rattle.lt_grammar.specs.Rows.{fixed, Text, Texts, number, part_lexemes, parts_lexemes}
 use Rattle.lt_grammar.specs.Table.{rule_row, item_row, lemma_parts, command_row}
 use Rattle.lt_grammar.specs.RowTexts.{LineText, line, lines_lexemes, PartText, header, item, lemma, command, text_lexemes, MayStand}
-use Rattle.lt_grammar.specs.Words.{find_word, all_rules, heads, rule_of, rule_word, head_of, head_word}
-use Rattle.lt_grammar.proofs.Distinct.{found_has}
+use Rattle.lt_grammar.specs.Words.{find_word, all_rules, rule_of, rule_word, head_of, head_word}
+use Rattle.lt_grammar.proofs.Distinct.{IsHead, found_has, found_head}
 use Rattle.lt_script.specs.declared.symbol.Symbol.{Symbol}
 use Rattle.lt_script.specs.declared.symbol.Symbol.TheVariants.{«Type», Constructor, MoreTypes, Term, Inside, Brackets, Arguments, MoreTerms, BoundName, FreeName, CloseFree, LambdaName, Body, CloseLambda, KeepType, KeepTerm, Part as APartOf, One, Lines, EndLine, APart, AHeader}
 use Rattle.lt_script.specs.declared.note.Note.{Note}

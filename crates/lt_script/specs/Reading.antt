@@ -2,12 +2,12 @@
 use Rattle.std.specs.Prelude.{◌≡◌, ℕ, List, [], ◌∷◌, ◌++◌, length, if◌then◌else◌, bytes_eq}
 use Rattle.lt_texts.specs.declared.lexical.Lexed.{Lexed}
 use Rattle.lt_texts.specs.declared.lexical.Lexed.TheVariants.{Token as One, End, BadByte as NoText, BadChar as NoToken}
-use Rattle.lt_texts.specs.Texts.{Left, left_of, lexed, spelling}
+use Rattle.lt_texts.specs.Texts.{Left, lexed, spelling}
 use Rattle.lt_texts.specs.Lexemes.{Lexeme, a_name, lexeme, Spans}
 use Rattle.lt_script.specs.Modes.{header_word, form_of}
 use Rattle.lt_script.specs.declared.mode.Mode.{Mode}
 use Rattle.lt_texts.specs.Commands.{Command}
-use Rattle.lt_grammar.specs.RowTexts.{PartText, header, text_lexemes, texts_lexemes, MayStand, MayStandAll, commands_of, HasCommands}
+use Rattle.lt_grammar.specs.RowTexts.{PartText, header, text_lexemes, texts_lexemes, MayStand, MayStandAll, commands_of}
 use Rattle.lt_script.specs.declared.read_error.ReadError.{ReadError}
 use Rattle.lt_script.specs.declared.read_error.ReadError.TheVariants.{BadHeader, BadCommand, Syntax, BadByte, BadChar, Memory}
 
@@ -75,16 +75,3 @@ AtEnd h s = (ps : List PartText) × (s' : Left) × AreHeaders ps × Spans s (tex
 -- the next command, behind headers if there are any
 abbrev pub NextCommand : Mode → Left → Command → Left → Type 0
 NextCommand h s c s' = (p : PartText) × NextText h s p s' × (commands_of (p ∷ []) ≡ c ∷ [])
-
--- from a text's begin to there stand its header and further parts, which have these commands
-abbrev pub Begins : Mode → List ℕ → List Command → Left → Type 0
-Begins h text cs s = (ps : List PartText) × MayStandAll (form_of h) ps × Spans (left_of text) (texts_lexemes (form_of h) (header ∷ ps) []) s × (cs ≡ commands_of ps)
-
--- the text has no commands, since it is no text of this mode
-abbrev pub HasNoCommands : Mode → List ℕ → Type 0
-HasNoCommands h text = (cs : List Command) → HasCommands h text cs → ⊥
-
--- an error that is no want of memory
-abbrev pub IsOfText : ReadError → Type 0
-IsOfText Memory = ⊥
-IsOfText _ = Unit {0}

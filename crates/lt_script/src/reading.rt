@@ -7,10 +7,8 @@ ghost use Rattle.lt_script.specs.declared.note.Note.TheVariants as notes;
 ghost use Rattle.lt_script.specs.Machine.{meant, expected};
 ghost use Rattle.lt_script.specs.Stops.{Reads, IsStopped, SaysNext, Heads, call_of};
 
-use crate::note::Note;
 use crate::read_error::ReadError;
 use crate::table::head_of;
-use crate::taking::{expect_head, take};
 use crate::word::Word;
 use lt_texts::lexical::{Lexed, Token, TokenKind};
 use lt_grammar::words::{Head};
@@ -55,38 +53,6 @@ fn head_at(mode: Mode, word: Word, at: usize) -> Next
     match head_of(mode, &name) {
         Some(head) => Next::Begins(head, at),
         None => Next::Other(at),
-    }
-}
-
-/// What is noted of what stands next, behind the word of a part; `end` is the text's length.
-pub fn read(
-    alloc: Global,
-    lexer: &mut Lexer<'_>,
-    end: usize,
-    head: Head,
-) -> Result<Vec<Note>, ReadError>
-    requires { end ≡ length lexer.old.source }
-    ensures read { IfOk result (λ made. Reads (expected head) (notes.Begin head ∷ []) lexer.old (reverse made.items) lexer.new) }
-    ensures wrong { IfErr result (λ e. IsStopped (expected head) (notes.Begin head ∷ []) (call_of head) lexer.old e) }
-{
-    let mut stack = Vec::new(alloc);
-    let mut made = Vec::new(alloc);
-    expect_head(&mut stack, head)?;
-    made.push(Note::Begin(head))?;
-    'words: loop {
-        let token = match lexer.next_token() {
-            Lexed::Token(token) => token,
-            Lexed::End => return Err(wrong_at(head, end)),
-            Lexed::BadByte(at) => return Err(ReadError::BadByte(at)),
-            Lexed::BadChar(at) => return Err(ReadError::BadChar(at)),
-        };
-        let word = word_of(alloc, lexer, token)?;
-        if !take(&mut stack, &mut made, word)? {
-            return Err(wrong_at(head, token.from));
-        }
-        if stack.is_empty() {
-            return Ok(made);
-        }
     }
 }
 
