@@ -20,32 +20,38 @@ ghost use Rattle.lt_texts.specs.declared.lexical.TokenKind.TheVariants.{Name};
 
 /// A list of lexemes is the text of one list of commands.
 pub fn one_writing()
-    ensures { (f : Form) (ws : List Lexeme) (cs ds : List Command) → IsText f ws cs → IsText f ws ds → cs ≡ ds }
+    ensures { (f : Form) (ws : List Lexeme) (cs ds : List Command)
+        → IsText f ws cs → IsText f ws ds → cs ≡ ds }
 {}
 
 /// A text of bytes has one reading.
 pub fn one_reading()
-    ensures { (f : Form) (text : List ℕ) (cs ds : List Command) → HasCommands f text cs → HasCommands f text ds → cs ≡ ds }
+    ensures { (f : Form) (text : List ℕ) (cs ds : List Command)
+        → HasCommands f text cs → HasCommands f text ds → cs ≡ ds }
 {}
 
 /// A text of bytes is a plain text of one list of items.
 pub fn one_plain_reading()
-    ensures { (text : List ℕ) (items others : List Item) → HasPlainItems text items → HasPlainItems text others → items ≡ others }
+    ensures { (text : List ℕ) (items others : List Item)
+        → HasPlainItems text items → HasPlainItems text others → items ≡ others }
 {}
 
 /// Lexemes begin with one type, whatever is behind it.
 pub fn one_type()
-    ensures { (s u : TypeTree) (x y : List Lexeme) → type_lexemes s x ≡ type_lexemes u y → (s ≡ u) × (x ≡ y) }
+    ensures { (s u : TypeTree) (x y : List Lexeme)
+        → type_lexemes s x ≡ type_lexemes u y → (s ≡ u) × (x ≡ y) }
 {}
 
 /// Lexemes begin with one term, where what is behind it goes on none.
 pub fn one_term()
-    ensures { (s u : TermText) (x y : List Lexeme) → IsClear x → IsClear y → term_lexemes s x ≡ term_lexemes u y → (s ≡ u) × (x ≡ y) }
+    ensures { (s u : TermText) (x y : List Lexeme)
+        → IsClear x → IsClear y → term_lexemes s x ≡ term_lexemes u y → (s ≡ u) × (x ≡ y) }
 {}
 
 /// A text begins with its header, and has no command there.
 pub fn header_begins()
-    ensures { (f : Form) (text : List ℕ) (s : Left) → Stands (left_of text) (header_text f) s → Begins f text [] s }
+    ensures { (f : Form) (text : List ℕ) (s : Left)
+        → Stands (left_of text) (header_text f) s → Begins f text [] s }
 {}
 
 /// Behind the next command a text has that command more.
@@ -56,7 +62,8 @@ pub fn command_goes_on()
 
 /// At its end a text has the commands that were read.
 pub fn end_has_commands()
-    ensures { (f : Form) (text : List ℕ) (cs : List Command) (s : Left) → Begins f text cs s → AtEnd f s → HasCommands f text cs }
+    ensures { (f : Form) (text : List ℕ) (cs : List Command) (s : Left)
+        → Begins f text cs s → AtEnd f s → HasCommands f text cs }
 {}
 
 /// At a place one command stands, and it ends at one place.
@@ -67,12 +74,14 @@ pub fn one_command()
 
 /// Where a command stands is not the end.
 pub fn no_command_at_the_end()
-    ensures { (f : Form) (s : Left) (c : Command) (s' : Left) → NextCommand f s c s' → AtEnd f s → ⊥ }
+    ensures { (f : Form) (s : Left) (c : Command) (s' : Left)
+        → NextCommand f s c s' → AtEnd f s → ⊥ }
 {}
 
 /// Where a fault stands no command does.
 pub fn no_fault_at_a_command()
-    ensures { (f : Form) (s : Left) (e : Wrong) (c : Command) (s' : Left) → FailsAt f s e → NextCommand f s c s' → ⊥ }
+    ensures { (f : Form) (s : Left) (e : Wrong) (c : Command) (s' : Left)
+        → FailsAt f s e → NextCommand f s c s' → ⊥ }
 {}
 
 /// Where a fault stands is not the end.
@@ -93,28 +102,34 @@ pub fn fault_is_first_wrong()
 
 /// So is a fault in its header.
 pub fn header_fault_is_first_wrong()
-    ensures { (f : Form) (text : List ℕ) (e : Wrong) → HeaderFailsAt f (left_of text) e → IsFirstWrong f text e }
+    ensures { (f : Form) (text : List ℕ) (e : Wrong)
+        → HeaderFailsAt f (left_of text) e → IsFirstWrong f text e }
 {}
 
 /// A text has one first wrong place, with one name.
 pub fn one_first_wrong()
-    ensures { (f : Form) (text : List ℕ) (e d : Wrong) → IsFirstWrong f text e → IsFirstWrong f text d → e ≡ d }
+    ensures { (f : Form) (text : List ℕ) (e d : Wrong)
+        → IsFirstWrong f text e → IsFirstWrong f text d → e ≡ d }
 {}
 
 /// A text with a wrong place has no reading.
 pub fn wrong_text_is_no_text()
-    ensures { (f : Form) (text : List ℕ) (e : Wrong) (cs : List Command) → IsFirstWrong f text e → HasCommands f text cs → ⊥ }
+    ensures { (f : Form) (text : List ℕ) (e : Wrong) (cs : List Command)
+        → IsFirstWrong f text e → HasCommands f text cs → ⊥ }
 {}
 
 /// What is printed of a type whose names are names is read as that type.
 pub fn printed_types_are_read()
-    ensures { (t : TypeTree) → IsTypeNamed t → IsRead (encode_utf8_all (printed_type t)) (type_lexemes t []) }
+    ensures { (t : TypeTree)
+        → IsTypeNamed t → IsRead (encode_utf8_all (printed_type t)) (type_lexemes t []) }
 {}
 
-/// What is printed of a term without loose bound names, whose other names are names, is read as an alpha-equal term.
+/// What is printed of a term without loose bound names, whose other names are names, is read as an
+/// alpha-equal term.
 pub fn printed_terms_are_read()
     ensures { (t : TermTree) → IsReadable t
-        → (x : TermText) × IsRead (encode_utf8_all (printed_term [] t)) (term_lexemes x []) × IsAlphaEqual (term_of_text x) t }
+        → (x : TermText) × IsRead (encode_utf8_all (printed_term [] t)) (term_lexemes x [])
+        × IsAlphaEqual (term_of_text x) t }
 {}
 
 /// So it is within a text, where what is behind it doesn't go on a name.
@@ -134,8 +149,10 @@ pub fn items_are_printed_by_pieces()
     ensures { (i : Item) → printed_head i ≡ words (map printed_piece (head_text i)) }
 {}
 
-/// What is printed of items, for names that are names and numbers below 2^32, is read back as items alike.
+/// What is printed of items, for names that are names and numbers below 2^32, is read back as items
+/// alike.
 pub fn printed_items_are_read()
     ensures { (items : List Item) → AreReadableItems items
-        → (others : List Item) × AreAlikeItems others items × HasPlainItems (encode_utf8_all (report items)) others }
+        → (others : List Item) × AreAlikeItems others items
+        × HasPlainItems (encode_utf8_all (report items)) others }
 {}

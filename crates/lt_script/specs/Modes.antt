@@ -3,7 +3,7 @@ use Rattle.std.specs.Prelude.{List, codes, Bool, true, false, Option, Some, None
 use Rattle.lt_definitions.specs.Types.{Chars}
 use Rattle.lt_texts.specs.Forms.{Form, item_words, command_words}
 use Rattle.lt_grammar.specs.declared.words.Head.{Head}
-use Rattle.lt_grammar.specs.declared.words.Head.TheVariants.{Command}
+use Rattle.lt_grammar.specs.declared.words.Head.TheVariants.{Header, Command}
 use Rattle.lt_script.specs.declared.mode.Mode.{Mode}
 use Rattle.lt_script.specs.declared.mode.Mode.TheVariants.{Plain, Theory}
 
@@ -23,6 +23,7 @@ form_of h = record { word = header_word h; number = 1; commands = mode_words h }
 
 -- whether what begins so may stand
 abbrev pub stands_in : Mode → Head → Bool
+stands_in h Header = false
 stands_in Plain (Command w) = false
 stands_in h k = true
 

@@ -4,7 +4,10 @@ ghost use Rattle.lt_script.specs.declared.note.Note.{Note};
 ghost use Rattle.lt_script.specs.declared.note.Note.TheVariants.{Begin};
 ghost use Rattle.lt_script.specs.Machine.{expected};
 ghost use Rattle.lt_script.specs.Making.{nothing, put_all};
-ghost use Rattle.lt_script.specs.Reading.{Fails, AtEnd, NextCommand};
+ghost use Rattle.lt_script.specs.Modes.{form_of};
+ghost use Rattle.lt_script.specs.Promises.{Refuses};
+ghost use Rattle.lt_script.specs.Reading as rows;
+ghost use Rattle.lt_texts.specs.WrongPlaces.{AtEnd, NextCommand};
 ghost use Rattle.lt_script.specs.Stops.{Reads, IsStopped, call_of, is_header};
 ghost use Rattle.lt_script.specs.Views.{made_of, command_of};
 
@@ -45,8 +48,9 @@ fn read(alloc: Global, lexer: &mut Lexer<'_>, end: usize, head: Head) -> Result<
     }
 }
 
-/// The next command, or None at the text's end; or the first place where no text of this mode goes on so. Headers before it are passed
-/// over. `end` is the text's length.
+/// The next command, or None at the text's end; or the first place where no text of this form goes
+/// on so. Headers before it are passed over. `end` is the text's length. After a refusal the lexer
+/// stands somewhere behind the place.
 pub fn read_command(
     alloc: Global,
     lexer: &mut Lexer<'_>,
@@ -54,8 +58,23 @@ pub fn read_command(
     mode: Mode,
 ) -> Result<Option<Command>, ReadError>
     requires { end ≡ length lexer.old.source }
-    ensures command { IfOk result (λ o. MatchOption o (AtEnd mode lexer.old) (λ c. NextCommand mode lexer.old (command_of c) lexer.new)) }
-    ensures wrong { IfErr result (λ e. Fails mode lexer.old e) }
+    ensures command { IfOk result (λ o. MatchOption o (AtEnd (form_of mode) lexer.old)
+        (λ c. NextCommand (form_of mode) lexer.old (command_of c) lexer.new)) }
+    ensures wrong { IfErr result (λ e. Refuses (form_of mode) lexer.old e) }
+{
+    next_by_rows(alloc, lexer, end, mode)
+}
+
+/// The same, by rows.
+fn next_by_rows(
+    alloc: Global,
+    lexer: &mut Lexer<'_>,
+    end: usize,
+    mode: Mode,
+) -> Result<Option<Command>, ReadError>
+    requires { end ≡ length lexer.old.source }
+    ensures command { IfOk result (λ o. MatchOption o (rows.AtEnd mode lexer.old) (λ c. rows.NextCommand mode lexer.old (command_of c) lexer.new)) }
+    ensures wrong { IfErr result (λ e. rows.Fails mode lexer.old e) }
 {
     'parts: loop {
         match next_head(alloc, lexer, mode)? {

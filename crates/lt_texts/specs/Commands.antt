@@ -1,12 +1,13 @@
 -- The commands of a theory text, as data.
--- Source: after the commands of Isabelle's Lifting and Transfer packages; their words and the order of their parts are this project's own.
+-- Source: after the commands of Isabelle's Lifting and Transfer packages; their words and the order
+-- of their parts are this project's own.
 use Rattle.std.specs.Prelude.{List}
 use Rattle.lt_definitions.specs.Types.{Chars, TypeTree}
 use Rattle.lt_definitions.specs.Terms.{TermTree}
 use Rattle.lt_definitions.specs.Items.{Item}
 
--- A command: one that adds an item, or one that registers or adds something by what is registered. The parts stand in the order
--- of its text.
+-- A command: one that adds an item, or one that registers or adds something by what is registered.
+-- The parts stand in the order of its text.
 pub data Command : Type 0 where
   item_command : Item → Command
   law_command : (law label : Chars) → Command
@@ -17,7 +18,8 @@ pub data Command : Type 0 where
   rule_command : (label : Chars) → Command
   lifting_command : (label : Chars) → Command
   lifting_typedef_command : (ty : Chars) → Command
-  quotient_type_command : (name : Chars) (params : List Chars) (relation : TermTree) (by_label : Chars) → Command
+  quotient_type_command : (name : Chars) (params : List Chars) (relation : TermTree)
+      (by_label : Chars) → Command
   lift_command : (name : Chars) (ty : TypeTree) (raw : TermTree) (by_label : Chars) → Command
   parametric_command : (ty : Chars) → Command
   param_rule_command : (label rule by_label : Chars) → Command

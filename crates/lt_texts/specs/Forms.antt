@@ -17,12 +17,17 @@ pub record Form : Type 0 where
 
 -- the words of items
 abbrev pub item_words : List Chars
-item_words = codes "type" ∷ codes "const" ∷ codes "axiom" ∷ codes "def" ∷ codes "typedef" ∷ codes "lemma" ∷ []
+item_words =
+    codes "type" ∷ codes "const" ∷ codes "axiom" ∷ codes "def" ∷ codes "typedef" ∷ codes "lemma"
+    ∷ []
 
 -- the words of all commands
 abbrev pub command_words : List Chars
-command_words = item_words ++ codes "law" ∷ codes "corr" ∷ codes "relator" ∷ codes "property" ∷ codes "domain" ∷ codes "rule" ∷ codes "lifting"
-    ∷ codes "lifting_typedef" ∷ codes "quotient_type" ∷ codes "lift" ∷ codes "parametric" ∷ codes "param_rule" ∷ codes "equiv" ∷ codes "implies"
+command_words = item_words
+    ++ codes "law" ∷ codes "corr" ∷ codes "relator" ∷ codes "property" ∷ codes "domain"
+    ∷ codes "rule" ∷ codes "lifting"
+    ∷ codes "lifting_typedef" ∷ codes "quotient_type" ∷ codes "lift" ∷ codes "parametric"
+    ∷ codes "param_rule" ∷ codes "equiv" ∷ codes "implies"
     ∷ codes "carry" ∷ codes "abs_eq" ∷ codes "rep_eq" ∷ []
 
 -- a plain theory
@@ -69,6 +74,7 @@ abbrev pub IsAllowed : Form → Sentence → Type 0
 IsAllowed f header_again = Unit {0}
 IsAllowed f (a_command c) = may_stand f (first_word (command_text c)) ≡ true
 
+-- so may each of these
 abbrev pub AreAllowed : Form → List Sentence → Type 0
 AreAllowed f [] = Unit {0}
 AreAllowed f (x ∷ xs) = IsAllowed f x × AreAllowed f xs
@@ -79,9 +85,12 @@ commands_of [] = []
 commands_of (header_again ∷ xs) = commands_of xs
 commands_of (a_command c ∷ xs) = c ∷ commands_of xs
 
--- The lexemes are a header of the form, then headers and commands that may stand, and the commands are these.
+-- The lexemes are a header of the form, then headers and commands that may stand, and the commands
+-- are these.
 abbrev pub IsText : Form → List Lexeme → List Command → Type 0
-IsText f ws cs = (xs : List Sentence) × AreAllowed f xs × AreWritten (sentences_text f (header_again ∷ xs)) ws [] × (cs ≡ commands_of xs)
+IsText f ws cs =
+    (xs : List Sentence) × AreAllowed f xs × AreWritten (sentences_text f (header_again ∷ xs)) ws []
+    × (cs ≡ commands_of xs)
 
 -- The bytes are a text of the form with these commands.
 abbrev pub HasCommands : Form → List ℕ → List Command → Type 0

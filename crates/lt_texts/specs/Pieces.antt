@@ -1,4 +1,5 @@
--- The text of each line, item and command, said once, as a list of pieces. What is read and what is printed follow from it.
+-- The text of each line, item and command, said once, as a list of pieces. What is read and what is
+-- printed follow from it.
 -- Source: this project's own.
 use Prim.Native.String.{String}
 use Rattle.std.specs.Prelude.{◌≡◌, ℕ, List, [], ◌∷◌, ◌++◌, map, Some, codes}
@@ -15,8 +16,9 @@ use Rattle.lt_texts.specs.Lexemes.{Lexeme, a_name, a_variable, a_number, a_sign}
 use Rattle.lt_texts.specs.Commands.{Command, item_command, law_command, corr_command, relator_command, property_command, domain_command, rule_command, lifting_command, lifting_typedef_command, quotient_type_command, lift_command, parametric_command, param_rule_command, equiv_command, implies_command, carry_command, abs_eq_command, rep_eq_command}
 use Rattle.lt_texts.specs.Writing.{TermText, type_lexemes, term_lexemes, term_of_text}
 
--- A piece of a text: a word or a sign that stands as it is, a name, a number, a type variable, a type, or a term. The terms of
--- statements, bodies, predicates and relations are told apart from the terms of lines.
+-- A piece of a text: a word or a sign that stands as it is, a name, a number, a type variable, a
+-- type, or a term. The terms of statements, bodies, predicates and relations are told apart from
+-- the terms of lines.
 pub data Piece : Type 0 where
   word_piece : Chars → Piece
   sign_piece : TokenKind → Piece
@@ -60,8 +62,10 @@ rule_text (by_mp i j) = keyword "mp" ∷ number_piece i ∷ number_piece j ∷ [
 rule_text (by_allI x ty i) = keyword "allI" ∷ name_piece x ∷ type_piece ty ∷ number_piece i ∷ []
 rule_text (by_allE t i) = keyword "allE" ∷ term_piece t ∷ number_piece i ∷ []
 rule_text (by_iff i j) = keyword "iff" ∷ number_piece i ∷ number_piece j ∷ []
-rule_text (by_inst x ty t i) = keyword "inst" ∷ name_piece x ∷ type_piece ty ∷ term_piece t ∷ number_piece i ∷ []
-rule_text (by_tinst a ty i) = keyword "tinst" ∷ variable_piece a ∷ type_piece ty ∷ number_piece i ∷ []
+rule_text (by_inst x ty t i) =
+    keyword "inst" ∷ name_piece x ∷ type_piece ty ∷ term_piece t ∷ number_piece i ∷ []
+rule_text (by_tinst a ty i) =
+    keyword "tinst" ∷ variable_piece a ∷ type_piece ty ∷ number_piece i ∷ []
 rule_text (by_select p) = keyword "select" ∷ term_piece p ∷ []
 rule_text (by_ccontr p) = keyword "ccontr" ∷ term_piece p ∷ []
 rule_text (by_thm l) = keyword "thm" ∷ name_piece l ∷ []
@@ -75,14 +79,18 @@ abbrev pub head_text : Item → List Piece
 head_text (type_item n k) = keyword "type" ∷ name_piece n ∷ number_piece k ∷ []
 head_text (const_item n ty) = keyword "const" ∷ name_piece n ∷ colon ∷ type_piece ty ∷ []
 head_text (axiom_item l t) = keyword "axiom" ∷ name_piece l ∷ colon ∷ statement_piece t ∷ []
-head_text (def_item n ty body) = keyword "def" ∷ name_piece n ∷ colon ∷ type_piece ty ∷ becomes ∷ statement_piece body ∷ []
-head_text (typedef_item n params p l a b) = keyword "typedef" ∷ name_piece n ∷ (map variable_piece params ++ colon ∷ statement_piece p
-    ∷ keyword "by" ∷ name_piece l ∷ keyword "abs" ∷ name_piece a ∷ keyword "rep" ∷ name_piece b ∷ [])
+head_text (def_item n ty body) =
+    keyword "def" ∷ name_piece n ∷ colon ∷ type_piece ty ∷ becomes ∷ statement_piece body ∷ []
+head_text (typedef_item n params p l a b) =
+    keyword "typedef" ∷ name_piece n ∷ (map variable_piece params ++ colon ∷ statement_piece p
+    ∷ keyword "by" ∷ name_piece l ∷ keyword "abs" ∷ name_piece a ∷ keyword "rep" ∷ name_piece b
+    ∷ [])
 head_text (lemma_item l t lines) = keyword "lemma" ∷ name_piece l ∷ colon ∷ statement_piece t ∷ []
 
 -- the text of an item, without its semicolon
 abbrev pub item_text : Item → List Piece
-item_text (lemma_item l t lines) = head_text (lemma_item l t lines) ++ sign_piece OpenBrace ∷ (flat_map line_text lines ++ sign_piece CloseBrace ∷ [])
+item_text (lemma_item l t lines) = head_text (lemma_item l t lines)
+    ++ sign_piece OpenBrace ∷ (flat_map line_text lines ++ sign_piece CloseBrace ∷ [])
 item_text item = head_text item
 
 -- the text of a command, without its semicolon
@@ -90,24 +98,33 @@ abbrev pub command_text : Command → List Piece
 command_text (item_command i) = item_text i
 command_text (law_command w l) = keyword "law" ∷ name_piece w ∷ name_piece l ∷ []
 command_text (corr_command c) = keyword "corr" ∷ name_piece c ∷ []
-command_text (relator_command k r m e q o) = keyword "relator" ∷ name_piece k ∷ name_piece r ∷ name_piece m ∷ name_piece e ∷ name_piece q ∷ name_piece o ∷ []
+command_text (relator_command k r m e q o) =
+    keyword "relator" ∷ name_piece k ∷ name_piece r ∷ name_piece m ∷ name_piece e ∷ name_piece q
+    ∷ name_piece o ∷ []
 command_text (property_command l) = keyword "property" ∷ name_piece l ∷ []
 command_text (domain_command l) = keyword "domain" ∷ name_piece l ∷ []
 command_text (rule_command l) = keyword "rule" ∷ name_piece l ∷ []
 command_text (lifting_command l) = keyword "lifting" ∷ name_piece l ∷ []
 command_text (lifting_typedef_command q) = keyword "lifting_typedef" ∷ name_piece q ∷ []
-command_text (quotient_type_command q params r l) = keyword "quotient_type" ∷ name_piece q ∷ (map variable_piece params ++ colon ∷ statement_piece r
+command_text (quotient_type_command q params r l) =
+    keyword "quotient_type" ∷ name_piece q ∷ (map variable_piece params ++ colon ∷ statement_piece r
     ∷ keyword "by" ∷ name_piece l ∷ [])
-command_text (lift_command n ty t l) = keyword "lift" ∷ name_piece n ∷ colon ∷ type_piece ty ∷ becomes ∷ statement_piece t ∷ keyword "by" ∷ name_piece l ∷ []
+command_text (lift_command n ty t l) =
+    keyword "lift" ∷ name_piece n ∷ colon ∷ type_piece ty ∷ becomes ∷ statement_piece t
+    ∷ keyword "by" ∷ name_piece l ∷ []
 command_text (parametric_command q) = keyword "parametric" ∷ name_piece q ∷ []
-command_text (param_rule_command n l m) = keyword "param_rule" ∷ name_piece n ∷ name_piece l ∷ name_piece m ∷ []
+command_text (param_rule_command n l m) =
+    keyword "param_rule" ∷ name_piece n ∷ name_piece l ∷ name_piece m ∷ []
 command_text (equiv_command n t) = keyword "equiv" ∷ name_piece n ∷ colon ∷ statement_piece t ∷ []
-command_text (implies_command n t) = keyword "implies" ∷ name_piece n ∷ colon ∷ statement_piece t ∷ []
-command_text (carry_command n e l) = keyword "carry" ∷ name_piece n ∷ name_piece e ∷ name_piece l ∷ []
+command_text (implies_command n t) =
+    keyword "implies" ∷ name_piece n ∷ colon ∷ statement_piece t ∷ []
+command_text (carry_command n e l) =
+    keyword "carry" ∷ name_piece n ∷ name_piece e ∷ name_piece l ∷ []
 command_text (abs_eq_command c) = keyword "abs_eq" ∷ name_piece c ∷ []
 command_text (rep_eq_command c) = keyword "rep_eq" ∷ name_piece c ∷ []
 
--- The first of these lexemes are those of the piece, and the rest is behind them. A term may be written in several ways.
+-- The first of these lexemes are those of the piece, and the rest is behind them. A term may be
+-- written in several ways.
 abbrev pub IsWritten : Piece → List Lexeme → List Lexeme → Type 0
 IsWritten (word_piece w) ws rest = ws ≡ a_name w ∷ rest
 IsWritten (sign_piece k) ws rest = ws ≡ a_sign k ∷ rest
@@ -115,8 +132,10 @@ IsWritten (name_piece n) ws rest = ws ≡ a_name n ∷ rest
 IsWritten (number_piece k) ws rest = ws ≡ a_number (Some k) ∷ rest
 IsWritten (variable_piece a) ws rest = ws ≡ a_variable a ∷ rest
 IsWritten (type_piece ty) ws rest = ws ≡ type_lexemes ty rest
-IsWritten (statement_piece t) ws rest = (x : TermText) × (term_of_text x ≡ t) × (ws ≡ term_lexemes x rest)
-IsWritten (term_piece t) ws rest = (x : TermText) × (term_of_text x ≡ t) × (ws ≡ term_lexemes x rest)
+IsWritten (statement_piece t) ws rest =
+    (x : TermText) × (term_of_text x ≡ t) × (ws ≡ term_lexemes x rest)
+IsWritten (term_piece t) ws rest =
+    (x : TermText) × (term_of_text x ≡ t) × (ws ≡ term_lexemes x rest)
 
 -- the same of pieces in a row
 abbrev pub AreWritten : List Piece → List Lexeme → List Lexeme → Type 0

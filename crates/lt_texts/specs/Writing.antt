@@ -1,5 +1,6 @@
--- How types and terms are written: the lexemes of each, with the rest behind them. A type is written in one way; a term has
--- ways of writing, since a function may be applied to its arguments in one pair of brackets or in several.
+-- How types and terms are written: the lexemes of each, with the rest behind them. A type is
+-- written in one way; a term has ways of writing, since a function may be applied to its arguments
+-- in one pair of brackets or in several.
 -- Source: this project's own.
 use Rattle.std.specs.Prelude.{List, [], ◌∷◌}
 use Rattle.lt_texts.specs.declared.lexical.TokenKind.TheVariants.{Open, Close, OpenSquare, CloseSquare, Dollar, Percent, Backslash}
@@ -15,7 +16,8 @@ abbrev mutual
 
   pub constructor_lexemes : Chars → TypeTrees → List Lexeme → List Lexeme
   constructor_lexemes c no_types rest = a_name c ∷ rest
-  constructor_lexemes c (type_and t ts) rest = a_sign Open ∷ a_name c ∷ type_lexemes t (types_lexemes ts (a_sign Close ∷ rest))
+  constructor_lexemes c (type_and t ts) rest =
+      a_sign Open ∷ a_name c ∷ type_lexemes t (types_lexemes ts (a_sign Close ∷ rest))
 
   pub types_lexemes : TypeTrees → List Lexeme → List Lexeme
   types_lexemes no_types rest = rest
@@ -24,11 +26,12 @@ abbrev mutual
 -- type arguments of a constant, in square brackets where there are any
 abbrev pub arguments_lexemes : List TypeTree → List Lexeme → List Lexeme
 arguments_lexemes [] rest = rest
-arguments_lexemes (t ∷ ts) rest = a_sign OpenSquare ∷ type_lexemes t (types_lexemes (row ts) (a_sign CloseSquare ∷ rest))
+arguments_lexemes (t ∷ ts) rest =
+    a_sign OpenSquare ∷ type_lexemes t (types_lexemes (row ts) (a_sign CloseSquare ∷ rest))
 
 mutual
-  -- A way to write a term: a constant, a bound name, a free variable, an abstraction, or a function in brackets with its arguments,
-  -- of which there is one at least.
+  -- A way to write a term: a constant, a bound name, a free variable, an abstraction, or a function
+  -- in brackets with its arguments, of which there is one at least.
   pub data TermText : Type 0 where
     word : Chars → List TypeTree → TermText
     bound : Chars → TermText
@@ -41,13 +44,17 @@ mutual
     no_more_terms : TermTexts
     more_terms : TermText → TermTexts → TermTexts
 
+-- the lexemes of a term, and behind them the rest
 abbrev mutual
   pub term_lexemes : TermText → List Lexeme → List Lexeme
   term_lexemes (word c ts) rest = a_name c ∷ arguments_lexemes ts rest
   term_lexemes (bound x) rest = a_sign Percent ∷ a_name x ∷ rest
-  term_lexemes (free x ty) rest = a_sign Open ∷ a_sign Dollar ∷ a_name x ∷ type_lexemes ty (a_sign Close ∷ rest)
-  term_lexemes (lambda x ty b) rest = a_sign Open ∷ a_sign Backslash ∷ a_name x ∷ type_lexemes ty (term_lexemes b (a_sign Close ∷ rest))
-  term_lexemes (applied f a more) rest = a_sign Open ∷ term_lexemes f (term_lexemes a (terms_lexemes more (a_sign Close ∷ rest)))
+  term_lexemes (free x ty) rest =
+      a_sign Open ∷ a_sign Dollar ∷ a_name x ∷ type_lexemes ty (a_sign Close ∷ rest)
+  term_lexemes (lambda x ty b) rest = a_sign Open ∷ a_sign Backslash ∷ a_name x
+      ∷ type_lexemes ty (term_lexemes b (a_sign Close ∷ rest))
+  term_lexemes (applied f a more) rest =
+      a_sign Open ∷ term_lexemes f (term_lexemes a (terms_lexemes more (a_sign Close ∷ rest)))
 
   pub terms_lexemes : TermTexts → List Lexeme → List Lexeme
   terms_lexemes no_more_terms rest = rest

@@ -1,4 +1,5 @@
-//! Laws of what stands next in a text, by the longest gap and the longest token. Each function does nothing: its contract is the law.
+//! Laws of what stands next in a text, by the longest gap and the longest token. Each function does
+//! nothing: its contract is the law.
 ghost use Rattle.std.specs.Prelude.{◌≡◌, ◌↔◌, ℕ, List, IsUtf8};
 ghost use Rattle.lt_texts.specs.declared.lexical.Lexed.{Lexed};
 ghost use Rattle.lt_texts.specs.declared.lexical.Lexed.TheVariants.{BadByte};
@@ -26,12 +27,15 @@ pub fn texts_are_read_once()
     ensures { (text : List ℕ) (ws vs : List Lexeme) → IsRead text ws → IsRead text vs → ws ≡ vs }
 {}
 
-/// From each place on stand lexemes, up to the text's end, a byte that is no UTF-8, or a character that begins no token.
+/// From each place on stand lexemes, up to the text's end, a byte that is no UTF-8, or a character
+/// that begins no token.
 pub fn each_text_has_lexemes()
-    ensures { (s : Left) → (ws : List Lexeme) × (s' : Left) × Reads s ws s' × (l : Lexed) × Shows s' l × (IsToken l → ⊥) }
+    ensures { (s : Left) → (ws : List Lexeme) × (s' : Left) × Reads s ws s'
+        × (l : Lexed) × Shows s' l × (IsToken l → ⊥) }
 {}
 
 /// In a text that is UTF-8 no byte is wrong.
 pub fn utf8_has_no_bad_byte()
-    ensures { (text : List ℕ) (ws : List Lexeme) (s : Left) (n : ℕ) → IsUtf8 text → Reads (left_of text) ws s → Shows s (BadByte n) → ⊥ }
+    ensures { (text : List ℕ) (ws : List Lexeme) (s : Left) (n : ℕ)
+        → IsUtf8 text → Reads (left_of text) ws s → Shows s (BadByte n) → ⊥ }
 {}

@@ -45,9 +45,13 @@ pub fn texts_of_items()
         ≡ codes "axiom N : p" }
     ensures def_item { printed_pieces (item_text (def_item (codes "N") nat p))
         ≡ codes "def N : nat := p" }
-    ensures typedef_item { printed_pieces (item_text (typedef_item (codes "N") (codes "a" ∷ codes "b" ∷ []) p (codes "L") (codes "A") (codes "B")))
+    ensures typedef_item {
+        printed_pieces (item_text (typedef_item (codes "N") (codes "a" ∷ codes "b" ∷ []) p
+        (codes "L") (codes "A") (codes "B")))
         ≡ codes "typedef N 'a 'b : p by L abs A rep B" }
-    ensures lemma_item { printed_pieces (item_text (lemma_item (codes "N") p (by_assume q ∷ by_thm (codes "L") ∷ [])))
+    ensures lemma_item {
+        printed_pieces (item_text (lemma_item (codes "N") p
+        (by_assume q ∷ by_thm (codes "L") ∷ [])))
         ≡ codes "lemma N : p { assume q ; thm L ; }" }
 {}
 
@@ -56,7 +60,9 @@ pub fn texts_of_commands()
     ensures law { printed_pieces (command_text (law_command (codes "W") (codes "L")))
         ≡ codes "law W L" }
     ensures corr { printed_pieces (command_text (corr_command (codes "C"))) ≡ codes "corr C" }
-    ensures relator { printed_pieces (command_text (relator_command (codes "K") (codes "R") (codes "M") (codes "E") (codes "Q") (codes "O")))
+    ensures relator {
+        printed_pieces (command_text (relator_command (codes "K") (codes "R") (codes "M")
+        (codes "E") (codes "Q") (codes "O")))
         ≡ codes "relator K R M E Q O" }
     ensures property { printed_pieces (command_text (property_command (codes "L")))
         ≡ codes "property L" }
@@ -68,13 +74,17 @@ pub fn texts_of_commands()
         ≡ codes "lifting_typedef q" }
     ensures parametric { printed_pieces (command_text (parametric_command (codes "q")))
         ≡ codes "parametric q" }
-    ensures param_rule { printed_pieces (command_text (param_rule_command (codes "N") (codes "L") (codes "M")))
+    ensures param_rule {
+        printed_pieces (command_text (param_rule_command (codes "N") (codes "L") (codes "M")))
         ≡ codes "param_rule N L M" }
-    ensures carry { printed_pieces (command_text (carry_command (codes "N") (codes "E") (codes "L")))
+    ensures carry {
+        printed_pieces (command_text (carry_command (codes "N") (codes "E") (codes "L")))
         ≡ codes "carry N E L" }
     ensures abs_eq { printed_pieces (command_text (abs_eq_command (codes "c"))) ≡ codes "abs_eq c" }
     ensures rep_eq { printed_pieces (command_text (rep_eq_command (codes "c"))) ≡ codes "rep_eq c" }
-    ensures quotient_type { printed_pieces (command_text (quotient_type_command (codes "Q") (codes "a" ∷ codes "b" ∷ []) p (codes "L")))
+    ensures quotient_type {
+        printed_pieces (command_text (quotient_type_command (codes "Q")
+        (codes "a" ∷ codes "b" ∷ []) p (codes "L")))
         ≡ codes "quotient_type Q 'a 'b : p by L" }
     ensures lift { printed_pieces (command_text (lift_command (codes "N") nat p (codes "L")))
         ≡ codes "lift N : nat := p by L" }
@@ -88,17 +98,22 @@ pub fn texts_of_commands()
 pub fn a_plain_text()
     ensures { IsText plain_text
         (a_name (codes "plain") ∷ a_number (Some 1) ∷ a_sign Semicolon
-        ∷ a_name (codes "const") ∷ a_name (codes "p") ∷ a_sign Colon ∷ a_name (codes "bool") ∷ a_sign Semicolon
+        ∷ a_name (codes "const") ∷ a_name (codes "p") ∷ a_sign Colon ∷ a_name (codes "bool")
+        ∷ a_sign Semicolon
         ∷ a_name (codes "plain") ∷ a_number (Some 1) ∷ a_sign Semicolon
-        ∷ a_name (codes "lemma") ∷ a_name (codes "l") ∷ a_sign Colon ∷ a_name (codes "p") ∷ a_sign OpenBrace
-        ∷ a_name (codes "thm") ∷ a_name (codes "a") ∷ a_sign Semicolon ∷ a_sign CloseBrace ∷ a_sign Semicolon ∷ [])
-        (item_command (const_item (codes "p") bool) ∷ item_command (lemma_item (codes "l") p (by_thm (codes "a") ∷ [])) ∷ []) }
+        ∷ a_name (codes "lemma") ∷ a_name (codes "l") ∷ a_sign Colon ∷ a_name (codes "p")
+        ∷ a_sign OpenBrace
+        ∷ a_name (codes "thm") ∷ a_name (codes "a") ∷ a_sign Semicolon ∷ a_sign CloseBrace
+        ∷ a_sign Semicolon ∷ [])
+        (item_command (const_item (codes "p") bool)
+        ∷ item_command (lemma_item (codes "l") p (by_thm (codes "a") ∷ [])) ∷ []) }
 {}
 
 /// `theory 1; carry N E L;` has one command.
 pub fn a_theory_text()
     ensures { IsText theory_text
         (a_name (codes "theory") ∷ a_number (Some 1) ∷ a_sign Semicolon
-        ∷ a_name (codes "carry") ∷ a_name (codes "N") ∷ a_name (codes "E") ∷ a_name (codes "L") ∷ a_sign Semicolon ∷ [])
+        ∷ a_name (codes "carry") ∷ a_name (codes "N") ∷ a_name (codes "E") ∷ a_name (codes "L")
+        ∷ a_sign Semicolon ∷ [])
         (carry_command (codes "N") (codes "E") (codes "L") ∷ []) }
 {}

@@ -1,6 +1,6 @@
 use Rattle.std.proofs.Common.{◌≡◌, length}
 use Rattle.lt_script.proofs.Parts.{Past}
-use Rattle.lt_script.proofs.script.read_command.Given as goal
+use Rattle.lt_script.proofs.script.next_by_rows.Given as goal
 
 abbrev pub invariant-parts : goal.invariant-parts
 invariant-parts l = record { past : Past l.fn.mode l.fn.lexer l.lexer; end : l.end ≡ length l.lexer.source }
