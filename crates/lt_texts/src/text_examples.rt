@@ -45,12 +45,10 @@ pub fn texts_of_items()
         ≡ codes "axiom N : p" }
     ensures def_item { printed_pieces (item_text (def_item (codes "N") nat p))
         ≡ codes "def N : nat := p" }
-    ensures typedef_item {
-        printed_pieces (item_text (typedef_item (codes "N") (codes "a" ∷ codes "b" ∷ []) p
+    ensures typedef_item { printed_pieces (item_text (typedef_item (codes "N") (codes "a" ∷ codes "b" ∷ []) p
         (codes "L") (codes "A") (codes "B")))
         ≡ codes "typedef N 'a 'b : p by L abs A rep B" }
-    ensures lemma_item {
-        printed_pieces (item_text (lemma_item (codes "N") p
+    ensures lemma_item { printed_pieces (item_text (lemma_item (codes "N") p
         (by_assume q ∷ by_thm (codes "L") ∷ [])))
         ≡ codes "lemma N : p { assume q ; thm L ; }" }
 {}
@@ -60,8 +58,7 @@ pub fn texts_of_commands()
     ensures law { printed_pieces (command_text (law_command (codes "W") (codes "L")))
         ≡ codes "law W L" }
     ensures corr { printed_pieces (command_text (corr_command (codes "C"))) ≡ codes "corr C" }
-    ensures relator {
-        printed_pieces (command_text (relator_command (codes "K") (codes "R") (codes "M")
+    ensures relator { printed_pieces (command_text (relator_command (codes "K") (codes "R") (codes "M")
         (codes "E") (codes "Q") (codes "O")))
         ≡ codes "relator K R M E Q O" }
     ensures property { printed_pieces (command_text (property_command (codes "L")))
@@ -74,16 +71,13 @@ pub fn texts_of_commands()
         ≡ codes "lifting_typedef q" }
     ensures parametric { printed_pieces (command_text (parametric_command (codes "q")))
         ≡ codes "parametric q" }
-    ensures param_rule {
-        printed_pieces (command_text (param_rule_command (codes "N") (codes "L") (codes "M")))
+    ensures param_rule { printed_pieces (command_text (param_rule_command (codes "N") (codes "L") (codes "M")))
         ≡ codes "param_rule N L M" }
-    ensures carry {
-        printed_pieces (command_text (carry_command (codes "N") (codes "E") (codes "L")))
+    ensures carry { printed_pieces (command_text (carry_command (codes "N") (codes "E") (codes "L")))
         ≡ codes "carry N E L" }
     ensures abs_eq { printed_pieces (command_text (abs_eq_command (codes "c"))) ≡ codes "abs_eq c" }
     ensures rep_eq { printed_pieces (command_text (rep_eq_command (codes "c"))) ≡ codes "rep_eq c" }
-    ensures quotient_type {
-        printed_pieces (command_text (quotient_type_command (codes "Q")
+    ensures quotient_type { printed_pieces (command_text (quotient_type_command (codes "Q")
         (codes "a" ∷ codes "b" ∷ []) p (codes "L")))
         ≡ codes "quotient_type Q 'a 'b : p by L" }
     ensures lift { printed_pieces (command_text (lift_command (codes "N") nat p (codes "L")))
