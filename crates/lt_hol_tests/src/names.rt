@@ -39,14 +39,6 @@ fn a_name_has_its_text(rt: HostRuntime) -> Result<(), Fail> {
 }
 
 #[test]
-fn a_word_is_a_name(rt: HostRuntime) -> Result<(), Fail> {
-    let word = Name::word(rt.alloc(), "all")?;
-    assert!(rt; word.is_word("all"));
-    assert!(rt; !word.is_word("al"));
-    Ok(())
-}
-
-#[test]
 fn a_letter_is_repeated(rt: HostRuntime) -> Result<(), Fail> {
     assert_eq!(rt; Name::repeated(rt.alloc(), 'x', 2)?.text(), "xxx");
     Ok(())
