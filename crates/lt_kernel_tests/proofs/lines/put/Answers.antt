@@ -6,4 +6,4 @@ add_term-requires g c = term-whole _ c.args.term.now _ c.in_ok-_ty.ensures
 
 pub returns-clause-typed : goal.returns-clause-typed
 returns-clause-typed g c =
-    put-typed _ _ _ c.args.term.now _ _ c.signature.ensures c.in_ok-made.ensures.keeps.stays.signature c.in_ok-made.ensures.is c.in_ok-_ty.ensures
+    put-typed _ _ _ c.args.term.now _ _ c.signature.ensures c.in_ok-made.ensures.keeps.stays.signature c.in_ok-made.ensures.builds.is c.in_ok-_ty.ensures
