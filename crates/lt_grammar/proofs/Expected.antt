@@ -18,7 +18,7 @@ use Rattle.lt_grammar.specs.Table.{rule_row}
 use Rattle.lt_grammar.specs.Words.{all_rules, rule_of, rule_word}
 use Rattle.lt_grammar.specs.RowTexts.{LineText, line, lines_lexemes}
 use Rattle.lt_grammar.proofs.Distinct.{found_has, rule_found}
-use Rattle.lt_grammar.proofs.OneWay.{IsClear, term_clear, terms_clear, parts_clear}
+use Rattle.lt_grammar.proofs.OneWay.{IsClear, term_clear, terms_clear, parts_clear, ends_clear}
 
 -- Something that is expected: a type, further ones up to a bracket, a term, what is behind an opening bracket, further terms
 -- up to the closing one, what may stand behind a constant, and so on.
@@ -106,9 +106,11 @@ open-type us mid (type_constructor c no_types, e) = absurd (cc e)
 open-type us mid (type_constructor c (type_and t ts), e) = (_, (c, cc e), (_, (t, refl), (_, (ts, refl), refl)))
 
 type-open : (us mid : List Lexeme) → Spelt (any_name ∷ a_type ∷ types_to_close ∷ []) us mid → Spells a_type (a_sign Open ∷ us) mid
-type-open us mid (x, (c, p), (y, (t, q), (z, (ts, r), e))) =
-    (type_constructor c (type_and t ts), ap (λ (v : List Lexeme). a_sign Open ∷ v) (p ∙ ap (λ (v : List Lexeme). a_name c ∷ v)
-    (q ∙ ap (type_lexemes t) (r ∙ ap (λ (v : List Lexeme). types_lexemes ts (a_sign Close ∷ v)) e))))
+type-open us mid (x, (c, p), (y, (t, q), (z, (ts, r), e))) = (
+  type_constructor c (type_and t ts),
+  ap (λ (v : List Lexeme). a_sign Open ∷ v) (p ∙ ap (λ (v : List Lexeme). a_name c ∷ v)
+      (q ∙ ap (type_lexemes t) (r ∙ ap (λ (v : List Lexeme). types_lexemes ts (a_sign Close ∷ v)) e))),
+)
 
 name-type : (c : Chars) (us mid : List Lexeme) → Spells a_type (a_name c ∷ us) mid → us ≡ mid
 name-type c us mid (type_variable a, e) = absurd (cc e)
@@ -194,17 +196,6 @@ term-begins (applied f a more) rest = tt
 no-term : (ws rest : List Lexeme) (x : TermText) → ws ≡ term_lexemes x rest → BeginsTerm ws
 no-term ws rest x e = subst BeginsTerm (sym e) (term-begins x rest)
 
--- what is clear goes on no term
-pub ends_clear : (x : TermText) (rest : List Lexeme) → IsClear rest → EndsThere x rest
-ends_clear (word c []) [] n = absurd n
-ends_clear (word c []) (a_sign OpenSquare ∷ rest) n = absurd n
-ends_clear (word c []) (w ∷ rest) n = tt
-ends_clear (word c (t ∷ ts)) rest n = tt
-ends_clear (bound x) rest n = tt
-ends_clear (free x ty) rest n = tt
-ends_clear (lambda x ty b) rest n = tt
-ends_clear (applied f a more) rest n = tt
-
 name-term : (c : Chars) (us mid : List Lexeme) → Spells a_term (a_name c ∷ us) mid → Spelt (brackets c ∷ []) us mid
 name-term c us mid (word d ts, e, n) =
     let same : d ≡ c = let f = sym e in cc f in
@@ -256,9 +247,11 @@ dollar-inside us mid (applied f a more, e) =
     let tail : a_sign Dollar ∷ us ≡ term_lexemes f (term_lexemes a (terms_lexemes more (a_sign Close ∷ mid))) = cc e in absurd (no-term _ _ f tail)
 
 inside-dollar : (us mid : List Lexeme) → Spelt (any_name ∷ a_type ∷ exactly (a_sign Close) ∷ []) us mid → Spells inside (a_sign Dollar ∷ us) mid
-inside-dollar us mid (u, (x, p), (v, (ty, q), (z, r, e))) =
-    (free x ty, ap (λ (y : List Lexeme). a_sign Open ∷ a_sign Dollar ∷ y) (p ∙ ap (λ (y : List Lexeme). a_name x ∷ y)
-    (q ∙ ap (type_lexemes ty) (r ∙ ap (λ (y : List Lexeme). a_sign Close ∷ y) e))))
+inside-dollar us mid (u, (x, p), (v, (ty, q), (z, r, e))) = (
+  free x ty,
+  ap (λ (y : List Lexeme). a_sign Open ∷ a_sign Dollar ∷ y) (p ∙ ap (λ (y : List Lexeme). a_name x ∷ y)
+      (q ∙ ap (type_lexemes ty) (r ∙ ap (λ (y : List Lexeme). a_sign Close ∷ y) e))),
+)
 
 slash-inside : (us mid : List Lexeme) → Spells inside (a_sign Backslash ∷ us) mid → Spelt (any_name ∷ a_type ∷ a_term ∷ exactly (a_sign Close) ∷ []) us mid
 slash-inside us mid (word c ts, e) = absurd (cc e)
@@ -269,9 +262,11 @@ slash-inside us mid (applied f a more, e) =
     let tail : a_sign Backslash ∷ us ≡ term_lexemes f (term_lexemes a (terms_lexemes more (a_sign Close ∷ mid))) = cc e in absurd (no-term _ _ f tail)
 
 inside-slash : (us mid : List Lexeme) → Spelt (any_name ∷ a_type ∷ a_term ∷ exactly (a_sign Close) ∷ []) us mid → Spells inside (a_sign Backslash ∷ us) mid
-inside-slash us mid (u, (x, p), (v, (ty, q), (t, (b, r, n), (z, s, e)))) =
-    (lambda x ty b, ap (λ (y : List Lexeme). a_sign Open ∷ a_sign Backslash ∷ y) (p ∙ ap (λ (y : List Lexeme). a_name x ∷ y)
-    (q ∙ ap (type_lexemes ty) (r ∙ ap (term_lexemes b) (s ∙ ap (λ (y : List Lexeme). a_sign Close ∷ y) e)))))
+inside-slash us mid (u, (x, p), (v, (ty, q), (t, (b, r, n), (z, s, e)))) = (
+  lambda x ty b,
+  ap (λ (y : List Lexeme). a_sign Open ∷ a_sign Backslash ∷ y) (p ∙ ap (λ (y : List Lexeme). a_name x ∷ y)
+      (q ∙ ap (type_lexemes ty) (r ∙ ap (term_lexemes b) (s ∙ ap (λ (y : List Lexeme). a_sign Close ∷ y) e)))),
+)
 
 -- an application: its first lexeme is no dollar and no backslash
 abbrev BeginsInside : Lexeme → Type 0

@@ -1,5 +1,5 @@
 //! Laws of the grammar. Each function does nothing: its contract is the law.
-ghost use Rattle.std.specs.Prelude.{◌≡◌, ◌++◌, ◌∷◌, [], List, ℕ, true, map, encode_utf8_all};
+ghost use Rattle.std.specs.Prelude.{◌≡◌, ◌⊎◌, ◌++◌, ◌∷◌, [], List, ℕ, true, map, encode_utf8_all};
 ghost use Rattle.lt_definitions.specs.Alpha.{IsAlphaEqual};
 ghost use Rattle.lt_definitions.specs.Items.{Item};
 ghost use Rattle.lt_definitions.specs.Printing.{words, printed_type, printed_term, printed_rule, printed_head, report};
@@ -14,7 +14,7 @@ ghost use Rattle.lt_texts.specs.Pieces.{rule_text, head_text, printed_piece};
 ghost use Rattle.lt_texts.specs.Reading.{Reads, IsRead};
 ghost use Rattle.lt_texts.specs.Spelling.{stops};
 ghost use Rattle.lt_texts.specs.Texts.{Left, left_of};
-ghost use Rattle.lt_texts.specs.WrongPlaces.{Wrong, IsClear, Stands, Begins, NextCommand, AtEnd, FailsAt, HeaderFailsAt, IsFirstWrong};
+ghost use Rattle.lt_texts.specs.WrongPlaces.{Wrong, IsClear, Stands, Begins, NextCommand, AtEnd, FailsAt, HeaderFailsAt, IsFirstWrong, IsTypeAt, IsTermAt, TypeFailsAt, TermFailsAt};
 ghost use Rattle.lt_texts.specs.Writing.{TermText, term_of_text, type_lexemes, term_lexemes};
 ghost use Rattle.lt_texts.specs.declared.lexical.TokenKind.TheVariants.{Name};
 
@@ -118,6 +118,88 @@ pub fn wrong_text_is_no_text()
         → IsFirstWrong f text e → HasCommands f text cs → ⊥ }
 {}
 
+/// At each place where a command may begin stands a command, the text's end or a fault.
+pub fn each_place()
+    ensures { (f : Form) (s : Left) → ((c : Command) × (s' : Left) × NextCommand f s c s')
+        ⊎ AtEnd f s ⊎ ((e : Wrong) × FailsAt f s e) }
+{}
+
+/// At each place stands a header or a fault in it.
+pub fn header_or_fault()
+    ensures { (f : Form) (s : Left) → ((s' : Left) × Stands s (header_text f) s')
+        ⊎ ((e : Wrong) × HeaderFailsAt f s e) }
+{}
+
+/// A header ends at one place.
+pub fn one_header()
+    ensures { (f : Form) (s a b : Left)
+        → Stands s (header_text f) a → Stands s (header_text f) b → a ≡ b }
+{}
+
+/// Where a header stands no fault in it does.
+pub fn no_fault_at_a_header()
+    ensures { (f : Form) (s a : Left) (e : Wrong)
+        → Stands s (header_text f) a → HeaderFailsAt f s e → ⊥ }
+{}
+
+/// In a header one fault stands, with one place and one name.
+pub fn one_header_fault()
+    ensures { (f : Form) (s : Left) (e d : Wrong)
+        → HeaderFailsAt f s e → HeaderFailsAt f s d → e ≡ d }
+{}
+
+/// A text of bytes has a reading or a first wrong place.
+pub fn reading_or_wrong_place()
+    ensures { (f : Form) (text : List ℕ) → ((cs : List Command) × HasCommands f text cs)
+        ⊎ ((e : Wrong) × IsFirstWrong f text e) }
+{}
+
+/// At each place stands a type or a fault in it.
+pub fn type_or_fault()
+    ensures { (s : Left) → ((ty : TypeTree) × (s' : Left) × IsTypeAt s ty s')
+        ⊎ ((e : Wrong) × TypeFailsAt s e) }
+{}
+
+/// At a place one type stands, and it ends at one place.
+pub fn one_type_at()
+    ensures { (s : Left) (t u : TypeTree) (a b : Left)
+        → IsTypeAt s t a → IsTypeAt s u b → (t ≡ u) × (a ≡ b) }
+{}
+
+/// Where a type stands no fault in it does.
+pub fn no_fault_at_a_type()
+    ensures { (s : Left) (t : TypeTree) (a : Left) (e : Wrong)
+        → IsTypeAt s t a → TypeFailsAt s e → ⊥ }
+{}
+
+/// In a type one fault stands, with one place and one name.
+pub fn one_type_fault()
+    ensures { (s : Left) (e d : Wrong) → TypeFailsAt s e → TypeFailsAt s d → e ≡ d }
+{}
+
+/// At each place stands a term or a fault in it.
+pub fn term_or_fault()
+    ensures { (s : Left) → ((t : TermTree) × (s' : Left) × IsTermAt s t s')
+        ⊎ ((e : Wrong) × TermFailsAt s e) }
+{}
+
+/// At a place one term stands, and it ends at one place.
+pub fn one_term_at()
+    ensures { (s : Left) (t u : TermTree) (a b : Left)
+        → IsTermAt s t a → IsTermAt s u b → (t ≡ u) × (a ≡ b) }
+{}
+
+/// Where a term stands no fault in it does.
+pub fn no_fault_at_a_term()
+    ensures { (s : Left) (t : TermTree) (a : Left) (e : Wrong)
+        → IsTermAt s t a → TermFailsAt s e → ⊥ }
+{}
+
+/// In a term one fault stands, with one place and one name.
+pub fn one_term_fault()
+    ensures { (s : Left) (e d : Wrong) → TermFailsAt s e → TermFailsAt s d → e ≡ d }
+{}
+
 /// What is printed of a type whose names are names is read as that type.
 pub fn printed_types_are_read()
     ensures { (t : TypeTree)
@@ -155,9 +237,4 @@ pub fn printed_items_are_read()
     ensures { (items : List Item) → AreReadableItems items
         → (others : List Item) × AreAlikeItems others items
         × HasPlainItems (encode_utf8_all (report items)) others }
-{}
-
-/// Temporary.
-pub fn temporary_law()
-    ensures { (w : List Lexeme) → w ≡ w }
 {}
