@@ -133,14 +133,14 @@ rest-begins f w us (x ∷ xs, a, h) =
     let tail : us ≡ q.0 = cc lists in
     (head_of_part p.0, is-head f p.0 m, cc lists, s.0, subst (λ (z : List Lexeme). Spelt (expected_behind f (head_of_part p.0)) z s.0) (sym tail) q.2)
 
-rest-word : (f : Form) (c : Chars) (us : List Lexeme) → IsRest f (a_name c ∷ us) → (k : Head) × (head_of f c ≡ Some k) × (mid : List Lexeme) × Spelt (expected_behind f k) us mid
+pub rest-word : (f : Form) (c : Chars) (us : List Lexeme) → IsRest f (a_name c ∷ us) → (k : Head) × (head_of f c ≡ Some k) × (mid : List Lexeme) × Spelt (expected_behind f k) us mid
 rest-word f c us h =
     let r = rest-begins f (a_name c) us h in
     let names = r.2 in
     let same : c ≡ head_word f r.0 = cc names in
     (r.0, ap (head_of f) same ∙ head_found f r.0 r.1, r.3, r.4)
 
-rest-within : (f : Form) (c : Chars) (k : Head) (us : List Lexeme) → head_of f c ≡ Some k → IsRest f (a_name c ∷ us) → (rest : List Lexeme) × Spelt (expected_behind f k) us rest
+pub rest-within : (f : Form) (c : Chars) (k : Head) (us : List Lexeme) → head_of f c ≡ Some k → IsRest f (a_name c ∷ us) → (rest : List Lexeme) × Spelt (expected_behind f k) us rest
 rest-within f c k us e h =
     let r = rest-word f c us h in
     let both : Some r.0 ≡ Some k = sym r.1 ∙ e in
@@ -262,7 +262,7 @@ HeaderOr f s = ((s' : Left) × Stands s (header_text f) s') ⊎ ((e : Wrong) × 
 abbrev whole-header : Form → List Expected
 whole-header f = exactly (a_name f.word) ∷ exactly (number f.number) ∷ exactly (a_sign Semicolon) ∷ []
 
-whole-within : (f : Form) (us : List Lexeme) → IsWhole f us → (rest : List Lexeme) × Spelt (whole-header f) us rest
+pub whole-within : (f : Form) (us : List Lexeme) → IsWhole f us → (rest : List Lexeme) × Spelt (whole-header f) us rest
 whole-within f us (xs, a, h) = let s = split_written (header_text f) (sentences_text f xs) us [] h in (s.0, s.1)
 
 pub header_or_fault : (f : Form) (s : Left) → HeaderOr f s

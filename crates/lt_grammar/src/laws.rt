@@ -6,6 +6,7 @@ ghost use Rattle.lt_definitions.specs.Printing.{words, printed_type, printed_ter
 ghost use Rattle.lt_definitions.specs.Rules.{Rule};
 ghost use Rattle.lt_definitions.specs.Terms.{TermTree};
 ghost use Rattle.lt_definitions.specs.Types.{TypeTree};
+ghost use Rattle.lt_texts.specs.CommandPlaces.{NextPlaced};
 ghost use Rattle.lt_texts.specs.Commands.{Command};
 ghost use Rattle.lt_texts.specs.Forms.{Form, header_text, IsText, HasCommands, HasPlainItems};
 ghost use Rattle.lt_texts.specs.Lexemes.{Lexeme};
@@ -122,6 +123,26 @@ pub fn wrong_text_is_no_text()
 pub fn each_place()
     ensures { (f : Form) (s : Left) → ((c : Command) × (s' : Left) × NextCommand f s c s')
         ⊎ AtEnd f s ⊎ ((e : Wrong) × FailsAt f s e) }
+{}
+
+/// A command that stands next has a place, as has each line of a lemma.
+pub fn commands_have_places()
+    ensures { (f : Form) (s : Left) (c : Command) (s' : Left) → NextCommand f s c s'
+        → (from : ℕ) × (lines : List ℕ) × (to : ℕ) × NextPlaced f s c from lines to s' }
+{}
+
+/// What stands with places stands.
+pub fn placed_commands_are_commands()
+    ensures { (f : Form) (s : Left) (c : Command) (from : ℕ) (lines : List ℕ) (to : ℕ) (s' : Left)
+        → NextPlaced f s c from lines to s' → NextCommand f s c s' }
+{}
+
+/// At a place one command stands, with one place, and with one of each of its lines.
+pub fn one_placed_command()
+    ensures { (f : Form) (s : Left) (c : Command) (from : ℕ) (lines : List ℕ) (to : ℕ) (a : Left)
+        (d : Command) (begin : ℕ) (marks : List ℕ) (end : ℕ) (b : Left)
+        → NextPlaced f s c from lines to a → NextPlaced f s d begin marks end b
+        → (c ≡ d) × (from ≡ begin) × (lines ≡ marks) × (to ≡ end) × (a ≡ b) }
 {}
 
 /// At each place stands a header or a fault in it.
