@@ -242,24 +242,24 @@ pub fn printed_terms_are_read()
         × IsAlphaEqual (term_of_text x) t }
 {}
 
-/// So what is printed of a type stands alone in its text, and nothing else does.
-pub fn printed_types_stand_alone()
-    ensures { (t : TypeTree) → IsTypeNamed t → (s : Left)
-        × IsTypeAt (left_of (encode_utf8_all (printed_type t))) t s × Shows s End }
-{}
-
-/// What is printed of a term stands alone in its text as an alpha-equal term, and nothing else does.
-pub fn printed_terms_stand_alone()
-    ensures { (t : TermTree) → IsReadable t → (u : TermTree) × (s : Left)
-        × IsTermAt (left_of (encode_utf8_all (printed_term [] t))) u s × Shows s End
-        × IsAlphaEqual u t }
-{}
-
 /// So it is within a text, where what is behind it doesn't go on a name.
 pub fn printed_terms_are_read_within()
     ensures { (t : TermTree) → IsReadable t → (x : TermText) × IsAlphaEqual (term_of_text x) t
         × ((s : Left) (rest : List ℕ) → s.ahead ≡ printed_term [] t ++ rest → stops Name rest ≡ true
         → Reads s (term_lexemes x []) (record s { ahead = rest })) }
+{}
+
+/// What is printed of a type stands alone in its text.
+pub fn printed_types_stand_alone()
+    ensures { (t : TypeTree) → IsTypeNamed t → (s : Left)
+        × IsTypeAt (left_of (encode_utf8_all (printed_type t))) t s × Shows s End }
+{}
+
+/// What is printed of a term stands alone in its text, as an alpha-equal term.
+pub fn printed_terms_stand_alone()
+    ensures { (t : TermTree) → IsReadable t → (u : TermTree) × (s : Left)
+        × IsTermAt (left_of (encode_utf8_all (printed_term [] t))) u s × Shows s End
+        × IsAlphaEqual u t }
 {}
 
 /// What is printed of a line are its pieces, with one space between.
