@@ -68,6 +68,12 @@ pub fn end_has_commands()
         → Begins f text cs s → AtEnd f s → HasCommands f text cs }
 {}
 
+/// Up to a place a text has one list of commands.
+pub fn one_beginning()
+    ensures { (f : Form) (text : List ℕ) (cs ds : List Command) (s : Left)
+        → Begins f text cs s → Begins f text ds s → cs ≡ ds }
+{}
+
 /// At a place one command stands, and it ends at one place.
 pub fn one_command()
     ensures { (f : Form) (s : Left) (c : Command) (s' : Left) (d : Command) (z : Left)
