@@ -179,7 +179,7 @@ command-placed f s (item_command (lemma_item l t rules)) s' h =
     let d = stands_split k.0 s' (flat_map line_text rules) closing k.2 in
     let lines = lines-placed k.0 rules d.0 d.1 in
     (lines.0, (k.0, k.1, d.0, lines.1, d.2))
-command-placed f s c s' h = ([], refl, h)
+command-placed f s c s' h = ([], (refl, h))
 
 one-command-at : (f : Form) (s : Left) (c : Command) (places marks : List ℕ) (a b : Left) → CommandAt f s c places a → CommandAt f s c marks b → places ≡ marks
 one-command-at f s (item_command (lemma_item l t rules)) places marks a b (m, h, n, k, z) (o, i, p, j, y) =
