@@ -1,5 +1,5 @@
 -- A type alone and a term alone: at each place one of an answer and a fault, in one way. And a header.
-use Rattle.std.proofs.Common.{◌≡◌, ℕ, ◌∙◌, ap, sym, refl, subst, inl, inr, true, false, List, [], ◌∷◌, ◌++◌, append_assoc, append-nil}
+use Rattle.std.proofs.Common.{◌≡◌, ℕ, ◌∙◌, ap, sym, refl, subst, inl, inr, true, false, List, [], ◌∷◌, ◌++◌, append_assoc}
 use Rattle.std.specs.Prelude.{◌⊎◌, Some}
 use Rattle.lt_definitions.specs.Types.{Chars, TypeTree, type_variable}
 use Rattle.lt_definitions.specs.Terms.{TermTree}
@@ -13,14 +13,14 @@ use Rattle.lt_texts.specs.Lexemes.{Lexeme, a_name, a_variable, a_number, a_sign,
 use Rattle.lt_texts.specs.Reading.{IsNextToken, Reads}
 use Rattle.lt_texts.specs.Writing.{type_lexemes, TermText, word, bound, free, lambda, applied, term_lexemes, term_of_text}
 use Rattle.lt_texts.specs.Pieces.{AreWritten}
-use Rattle.lt_texts.specs.Forms.{Form, without_header, header_again, header_text, sentence_text, sentences_text}
+use Rattle.lt_texts.specs.Forms.{Form, without_header, header_again, header_text}
 use Rattle.lt_texts.specs.WrongPlaces.{Wrong, bad_header, bad_syntax, Language, IsWhole, IsViable, IsFront, IsWrong, Stands, HeaderFailsAt, BeginsWithType, BeginsWithTerm, EndsThere, EndsAt, IsTypeAt, IsTermAt, TypeFailsAt, TermFailsAt}
 use Rattle.lt_texts.proofs.ReadingOrder.{one_token, GoesOn, reads_compare}
 use Rattle.lt_grammar.proofs.OneWay.{one_type, one_term_there}
 use Rattle.lt_grammar.proofs.Splits.{type_splits, term_splits}
 use Rattle.lt_grammar.proofs.Sentences.{sentence_goes_on}
 use Rattle.lt_grammar.proofs.FirstWrong.{one-row, no-whole, stop-behind, same-wrong}
-use Rattle.lt_grammar.proofs.Expected.{Expected, a_type, a_term, Spelt}
+use Rattle.lt_grammar.proofs.Expected.{a_type, a_term, Spelt}
 use Rattle.lt_grammar.proofs.Standing.{Standing, standing, wrong_there}
 
 -- ---- one of the two stands

@@ -3,18 +3,17 @@
 use Rattle.std.proofs.Common.{◌≡◌, ℕ, zero, suc, ◌<◌, ◌≤◌, ◌∙◌, ap, sym, refl, subst, inl, inr, List, [], ◌∷◌, ◌++◌, length, arith, append-nil, Option, Some, None}
 use Rattle.std.specs.Prelude.{◌⊎◌}
 use Rattle.lt_definitions.specs.Types.{Chars}
-use Rattle.lt_texts.specs.declared.lexical.Token.{Token as Placed}
 use Rattle.lt_texts.specs.declared.lexical.Lexed.{Lexed}
 use Rattle.lt_texts.specs.declared.lexical.Lexed.TheVariants.{Token, End, BadByte, BadChar}
 use Rattle.lt_texts.specs.declared.lexical.TokenKind.TheVariants.{OpenBrace, CloseBrace, Semicolon}
 use Rattle.lt_texts.specs.Tokens.{Scanned}
 use Rattle.lt_texts.specs.Texts.{Left, left_of, lexed, after, place_of, IsToken}
-use Rattle.lt_texts.specs.Lexemes.{Lexeme, a_name, a_variable, a_number, a_sign, lexeme}
+use Rattle.lt_texts.specs.Lexemes.{Lexeme, a_name, a_sign, lexeme}
 use Rattle.lt_texts.specs.Reading.{IsNextToken, Shows, Reads}
 use Rattle.lt_texts.specs.Commands.{Command}
 use Rattle.lt_texts.specs.Pieces.{AreWritten}
-use Rattle.lt_texts.specs.Forms.{Form, Sentence, header_again, a_command, header_text, sentence_text, sentences_text, IsAllowed, AreAllowed, commands_of, HasCommands}
-use Rattle.lt_texts.specs.WrongPlaces.{Wrong, bad_header, bad_command, bad_byte, bad_char, IsWhole, IsRest, IsViable, IsFront, IsWrong, called, AreHeaders, Stands, Begins, NextCommand, AtEnd, FailsAt, HeaderFailsAt, IsFirstWrong}
+use Rattle.lt_texts.specs.Forms.{Form, Sentence, header_again, a_command, header_text, sentence_text, sentences_text, IsAllowed, commands_of, HasCommands}
+use Rattle.lt_texts.specs.WrongPlaces.{Wrong, bad_header, bad_command, bad_byte, bad_char, IsWhole, IsRest, IsFront, IsWrong, called, AreHeaders, Stands, Begins, NextCommand, AtEnd, FailsAt, HeaderFailsAt, IsFirstWrong}
 use Rattle.lt_texts.proofs.ReadingOrder.{reads_append, GoesOn, reads_compare}
 use Rattle.lt_texts.proofs.Readings.{next_found, lexed_shown}
 use Rattle.lt_texts.proofs.TokenTexts.{token_shortens}
@@ -32,7 +31,7 @@ use Rattle.lt_grammar.proofs.Sentences.{join_sentences, sentences_go_on, sentenc
 use Rattle.lt_grammar.proofs.FirstWrong.{one-row, fault_is_first_wrong, header_is_first_wrong}
 use Rattle.lt_grammar.proofs.TextLaws.{header_begins, command_goes_on, end_has_commands}
 use Rattle.lt_grammar.proofs.Expected.{Expected, exactly, lines, Spelt, join_spelt, split_spelt, expected_parts, parts_spelt, spelt_parts}
-use Rattle.lt_grammar.proofs.Standing.{IsBad, StandsWhole, StandsInPart, Standing, standing, wrong_there}
+use Rattle.lt_grammar.proofs.Standing.{IsBad, Standing, standing, wrong_there}
 
 -- ---- places get nearer to the end
 

@@ -9,16 +9,15 @@ use Rattle.lt_definitions.specs.Samples.{p}
 use Rattle.lt_texts.specs.declared.lexical.TokenKind.{TokenKind}
 use Rattle.lt_texts.specs.declared.lexical.TokenKind.TheVariants.{Name, OpenBrace, CloseBrace, Semicolon, Colon}
 use Rattle.lt_texts.specs.Spelling.{is_spelt, stops}
-use Rattle.lt_texts.specs.Texts.{Left}
 use Rattle.lt_texts.specs.Lexemes.{Lexeme, a_name, a_sign, lexeme}
 use Rattle.lt_texts.specs.Writing.{word}
 use Rattle.lt_texts.specs.Commands.{item_command}
 use Rattle.lt_texts.specs.Pieces.{sign_piece, semicolon, line_text, head_text}
 use Rattle.lt_texts.specs.Forms.{plain_text}
 use Rattle.lt_texts.specs.WrongPlaces.{Stands}
-use Rattle.lt_texts.specs.CommandPlaces.{IsFirstPlace, LinesAt, NextPlaced}
+use Rattle.lt_texts.specs.CommandPlaces.{IsFirstPlace, NextPlaced}
 use Rattle.lt_texts.proofs.GapLemmas.{gap_exact}
-use Rattle.lt_grammar.proofs.Cuts.{Cut, Cuts, nothing_cut, space-stops, stops-at, Stopped}
+use Rattle.lt_grammar.proofs.Cuts.{Cuts, nothing_cut, space-stops, Stopped}
 use Rattle.lt_grammar.proofs.PieceCuts.{is_ascii_name, ascii_name, semicolon_ends}
 use Rattle.lt_grammar.proofs.WrongExamples.{at, read-cuts, put}
 

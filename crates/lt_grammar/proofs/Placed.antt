@@ -1,5 +1,5 @@
 -- A command that stands somewhere has one place, and so has each of its lines.
-use Rattle.std.proofs.Common.{◌≡◌, ℕ, ◌∙◌, ap, sym, refl, subst, inl, inr, List, [], ◌∷◌, ◌++◌, append_assoc, append-nil}
+use Rattle.std.proofs.Common.{◌≡◌, ℕ, ◌∙◌, ap, sym, refl, subst, inl, inr, List, [], ◌∷◌, ◌++◌, append_assoc}
 use Rattle.std.specs.Prelude.{codes}
 use Rattle.std.specs.List.{flat_map}
 use Rattle.lt_texts.specs.declared.lexical.TokenKind.TheVariants.{OpenBrace, CloseBrace, Semicolon, Colon}
@@ -15,7 +15,7 @@ use Rattle.lt_texts.specs.Commands.{Command, item_command}
 use Rattle.lt_texts.specs.Pieces.{Piece, word_piece, sign_piece, name_piece, number_piece, variable_piece, type_piece, statement_piece, term_piece, semicolon, line_text, head_text, IsWritten, AreWritten}
 use Rattle.lt_texts.specs.Forms.{Form, Sentence, header_again, a_command, header_text, sentence_text, sentences_text, IsAllowed}
 use Rattle.lt_texts.specs.WrongPlaces.{AreHeaders, Stands, NextCommand}
-use Rattle.lt_texts.specs.CommandPlaces.{IsFirstPlace, LinesAt, LemmaAt, CommandAt, NextPlaced}
+use Rattle.lt_texts.specs.CommandPlaces.{IsFirstPlace, LinesAt, CommandAt, NextPlaced}
 use Rattle.lt_texts.proofs.GapLemmas.{gap_exact}
 use Rattle.lt_texts.proofs.ReadingOrder.{reads_append, reads_split, GoesOn, reads_compare}
 use Rattle.lt_grammar.specs.declared.words.RuleWord.{RuleWord}

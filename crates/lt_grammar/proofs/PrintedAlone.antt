@@ -1,5 +1,5 @@
 -- What is printed of a type or a term stands alone in its text.
-use Rattle.std.proofs.Common.{◌≡◌, ℕ, refl, List, [], ◌∷◌}
+use Rattle.std.proofs.Common.{refl, [], ◌∷◌}
 use Rattle.std.specs.Prelude.{encode_utf8_all}
 use Rattle.lt_definitions.specs.Types.{TypeTree}
 use Rattle.lt_definitions.specs.Terms.{TermTree}

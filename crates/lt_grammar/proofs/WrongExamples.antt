@@ -1,20 +1,19 @@
 -- Texts with a wrong place of each kind.
-use Rattle.std.proofs.Common.{lit<, ◌≡◌, ℕ, ◌<◌, ◌∙◌, ap, sym, refl, subst, inl, inr, Bool, true, false, List, [], ◌∷◌, ◌++◌, length, arith, codes, Option, Some, None}
+use Rattle.std.proofs.Common.{lit<, ◌≡◌, ℕ, ◌<◌, ◌∙◌, ap, sym, refl, subst, inl, inr, Bool, true, List, [], ◌∷◌, ◌++◌, arith, codes, Option, Some, None}
 use Rattle.std.specs.Prelude.{if◌then◌else◌, MatchOption}
 use Rattle.std.specs.Str.{chars, is_utf8}
 use Rattle.std.specs.Str.Lossy.{utf8_valid_len}
 use Rattle.lt_texts.specs.declared.lexical.Token.{Token as Placed}
-use Rattle.lt_texts.specs.declared.lexical.Lexed.{Lexed}
 use Rattle.lt_texts.specs.declared.lexical.Lexed.TheVariants.{Token, End, BadByte, BadChar}
 use Rattle.lt_texts.specs.declared.lexical.TokenKind.TheVariants.{Name, Number, OpenSquare, CloseSquare, Semicolon, Colon}
 use Rattle.lt_texts.specs.Tokens.{Scanned, run_at, token_at}
 use Rattle.lt_texts.specs.Spelling.{NoToken, IsLongest}
-use Rattle.lt_texts.specs.Texts.{Left, left_of, place_of, lexed}
+use Rattle.lt_texts.specs.Texts.{Left, left_of, place_of}
 use Rattle.lt_texts.specs.Lexemes.{Lexeme, a_name, a_variable, a_number, a_sign, lexeme}
 use Rattle.lt_texts.specs.Reading.{IsNextToken, Shows, Reads}
 use Rattle.lt_texts.specs.Commands.{item_command}
-use Rattle.lt_texts.specs.Forms.{Form, plain_text, header_again, a_command, header_text, sentence_text}
-use Rattle.lt_texts.specs.WrongPlaces.{Wrong, bad_header, bad_command, bad_syntax, bad_byte, bad_char, Language, IsWhole, IsRest, IsViable, IsFront, IsWrong, called, Begins, FailsAt, HeaderFailsAt, IsFirstWrong, BeginsWithTerm, EndsThere, TermFailsAt}
+use Rattle.lt_texts.specs.Forms.{plain_text, header_again, a_command, header_text, sentence_text}
+use Rattle.lt_texts.specs.WrongPlaces.{Wrong, bad_header, bad_command, bad_syntax, bad_byte, bad_char, Language, IsWhole, IsRest, IsViable, IsFront, IsWrong, Begins, FailsAt, HeaderFailsAt, IsFirstWrong, BeginsWithTerm, EndsThere, TermFailsAt}
 use Rattle.lt_definitions.specs.Types.{TypeTree, type_variable, type_constructor, no_types, type_and, row, bool}
 use Rattle.lt_definitions.specs.Items.{const_item}
 use Rattle.lt_texts.specs.Writing.{type_lexemes, types_lexemes, word, bound, free, lambda, applied}
