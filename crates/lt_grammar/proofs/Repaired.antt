@@ -13,7 +13,7 @@ use Rattle.lt_texts.specs.Named.{IsName}
 use Rattle.lt_texts.specs.Writing.{type_lexemes, types_lexemes, arguments_lexemes, TermText, word, bound, free, lambda, applied, TermTexts, no_more_terms, more_terms, term_lexemes, terms_lexemes}
 use Rattle.lt_texts.specs.Pieces.{AreWritten}
 use Rattle.lt_texts.specs.Forms.{Form, Sentence, header_text, sentence_text, sentences_text, IsAllowed, AreAllowed}
-use Rattle.lt_texts.specs.WrongPlaces.{IsWhole}
+use Rattle.lt_texts.specs.WrongPlaces.{IsWhole, BeginsWithType, BeginsWithTerm, EndsThere}
 use Rattle.lt_grammar.specs.declared.words.Fixed.{Fixed}
 use Rattle.lt_grammar.specs.declared.words.Fixed.TheVariants as signs
 use Rattle.lt_grammar.specs.declared.words.Part.{Part}
@@ -191,6 +191,30 @@ mutual
   terms-good : (more : TermTexts) (rest : List Lexeme) → all-good (terms_lexemes more rest) ≡ terms_lexemes (good-terms more) (all-good rest)
   terms-good no_more_terms rest = refl
   terms-good (more_terms t more) rest = term-good t (terms_lexemes more rest) ∙ ap (term_lexemes (good_term t)) (terms-good more rest)
+
+-- what begins with a type or a term does so still
+pub type_begins_good : (ws : List Lexeme) → BeginsWithType ws → BeginsWithType (all-good ws)
+type_begins_good ws (t, rest, e) = (good-type t, all-good rest, ap all-good e ∙ type-good t rest)
+
+ends-good : (x : TermText) (rest : List Lexeme) → EndsThere x rest → EndsThere (good_term x) (all-good rest)
+ends-good (word c []) [] n = tt
+ends-good (word c []) (a_name d ∷ rest) n = tt
+ends-good (word c []) (a_variable a ∷ rest) n = tt
+ends-good (word c []) (a_number None ∷ rest) n = tt
+ends-good (word c []) (a_number (Some k) ∷ rest) n = tt
+ends-good (word c []) (a_sign OpenSquare ∷ rest) n = absurd n
+ends-good (word c []) (a_sign kinds.Name ∷ rest) n = tt
+ends-good (word c []) (a_sign kinds.TypeVariable ∷ rest) n = tt
+ends-good (word c []) (a_sign kinds.Number ∷ rest) n = tt
+ends-good (word c []) (a_sign k ∷ rest) n = tt
+ends-good (word c (t ∷ ts)) rest n = tt
+ends-good (bound x) rest n = tt
+ends-good (free x ty) rest n = tt
+ends-good (lambda x ty b) rest n = tt
+ends-good (applied f a more) rest n = tt
+
+pub term_begins_good : (ws : List Lexeme) → BeginsWithTerm ws → BeginsWithTerm (all-good ws)
+term_begins_good ws (x, rest, e, n) = (good_term x, all-good rest, ap all-good e ∙ term-good x rest, ends-good x rest n)
 
 -- ---- rows
 

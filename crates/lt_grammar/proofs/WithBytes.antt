@@ -19,14 +19,14 @@ use Rattle.lt_texts.specs.Reading.{Reads, IsRead}
 use Rattle.lt_texts.specs.Commands.{Command}
 use Rattle.lt_texts.specs.Pieces.{printed_sign}
 use Rattle.lt_texts.specs.Forms.{Form, commands_of, HasCommands}
-use Rattle.lt_texts.specs.WrongPlaces.{IsWhole, IsViable}
+use Rattle.lt_texts.specs.WrongPlaces.{Language, IsWhole, IsViable, BeginsWithType, BeginsWithTerm}
 use Rattle.lt_texts.proofs.Readings.{lexemes_read}
 use Rattle.lt_grammar.proofs.Scalars.{AreScalars, scalars_append, decimal_scalars}
 use Rattle.lt_grammar.proofs.PieceScalars.{sign-scalars}
 use Rattle.lt_grammar.proofs.Cuts.{Cut, Cuts, nothing_cut, name-gap, space-stops}
 use Rattle.lt_grammar.proofs.PieceCuts.{cut_number}
 use Rattle.lt_grammar.proofs.ReadBack.{whole}
-use Rattle.lt_grammar.proofs.Repaired.{HasBytes, HaveBytes, good, all-good, all_kept, good_have, have_append, IsSpelt, whole_good}
+use Rattle.lt_grammar.proofs.Repaired.{HasBytes, HaveBytes, good, all-good, all_kept, good_have, have_append, IsSpelt, type_begins_good, term_begins_good, whole_good}
 
 -- ---- what is read has bytes
 
@@ -149,12 +149,26 @@ lexemes_have_a_text ws h = (encode_utf8_all (spaced-out ws), lexemes_read (encod
 
 -- ---- what goes on
 
+-- what a language goes on with, where it has with other lexemes what it has
+pub goes_on_good : (L : Language) → ((vs : List Lexeme) → L vs → L (all-good vs)) → (text : List ℕ) (ws : List Lexeme) (at : Left) → Reads (left_of text) ws at → IsViable L ws
+    → (longer : List ℕ) × (more : List Lexeme) × IsRead longer (ws ++ more) × L (ws ++ more)
+goes_on_good L repaired text ws at r (more, w) =
+    let have : HaveBytes ws = reads-have (left_of text) at ws (left-scalars text) r in
+    let same : all-good (ws ++ more) ≡ ws ++ all-good more = map-append good ws more ∙ ap (λ (z : List Lexeme). z ++ all-good more) (all_kept ws have) in
+    let read = lexemes_have_a_text (ws ++ all-good more) (have_append ws (all-good more) have (good_have more)) in
+    (read.0, all-good more, read.1, subst L same (repaired (ws ++ more) w))
+
 pub what_goes_on : (f : Form) (text : List ℕ) (ws : List Lexeme) (at : Left) → IsSpelt f → Reads (left_of text) ws at → IsViable (IsWhole f) ws
     → (longer : List ℕ) × (more : List Lexeme) × IsRead longer (ws ++ more) × (cs : List Command) × HasCommands f longer cs
-what_goes_on f text ws at s r (more, w) =
-    let have : HaveBytes ws = reads-have (left_of text) at ws (left-scalars text) r in
-    let same : all-good (ws ++ more) ≡ ws ++ all-good more =
-    map-append good ws more ∙ ap (λ (z : List Lexeme). z ++ all-good more) (all_kept ws have) in
-    let goes : IsWhole f (ws ++ all-good more) = subst (IsWhole f) same (whole_good f s (ws ++ more) w) in
-    let read = lexemes_have_a_text (ws ++ all-good more) (have_append ws (all-good more) have (good_have more)) in
-    (read.0, all-good more, read.1, commands_of goes.0, (ws ++ all-good more, read.1, (goes.0, goes.1, goes.2, refl)))
+what_goes_on f text ws at s r v =
+    let k = goes_on_good (IsWhole f) (whole_good f s) text ws at r v in
+    let whole = k.3 in
+    (k.0, k.1, k.2, commands_of whole.0, (ws ++ k.1, k.2, (whole.0, whole.1, whole.2, refl)))
+
+pub type_goes_on : (text : List ℕ) (ws : List Lexeme) (at : Left) → Reads (left_of text) ws at → IsViable BeginsWithType ws
+    → (longer : List ℕ) × (more : List Lexeme) × IsRead longer (ws ++ more) × BeginsWithType (ws ++ more)
+type_goes_on = goes_on_good BeginsWithType type_begins_good
+
+pub term_goes_on : (text : List ℕ) (ws : List Lexeme) (at : Left) → Reads (left_of text) ws at → IsViable BeginsWithTerm ws
+    → (longer : List ℕ) × (more : List Lexeme) × IsRead longer (ws ++ more) × BeginsWithTerm (ws ++ more)
+term_goes_on = goes_on_good BeginsWithTerm term_begins_good

@@ -1,5 +1,5 @@
 //! Laws of the grammar. Each function does nothing: its contract is the law.
-ghost use Rattle.std.specs.Prelude.{◌≡◌, ◌<◌, ◌^◌, ◌⊎◌, ◌++◌, ◌∷◌, [], List, ℕ, true, map, encode_utf8_all};
+ghost use Rattle.std.specs.Prelude.{◌≡◌, ◌⊎◌, ◌++◌, ◌∷◌, [], List, ℕ, true, map, encode_utf8_all};
 ghost use Rattle.lt_definitions.specs.Alpha.{IsAlphaEqual};
 ghost use Rattle.lt_definitions.specs.Items.{Item};
 ghost use Rattle.lt_definitions.specs.Printing.{words, printed_type, printed_term, printed_rule, printed_head, report};
@@ -10,12 +10,12 @@ ghost use Rattle.lt_texts.specs.CommandPlaces.{NextPlaced};
 ghost use Rattle.lt_texts.specs.Commands.{Command};
 ghost use Rattle.lt_texts.specs.Forms.{Form, without_header, header_text, IsText, HasCommands, HasPlainItems};
 ghost use Rattle.lt_texts.specs.Lexemes.{Lexeme};
-ghost use Rattle.lt_texts.specs.Named.{IsName, IsTypeNamed, IsReadable, AreReadableItems, AreAlikeItems};
+ghost use Rattle.lt_texts.specs.Named.{IsTypeNamed, IsReadable, AreReadableItems, AreAlikeItems};
 ghost use Rattle.lt_texts.specs.Pieces.{rule_text, head_text, printed_piece};
 ghost use Rattle.lt_texts.specs.Reading.{Shows, Reads, IsRead};
 ghost use Rattle.lt_texts.specs.Spelling.{stops};
 ghost use Rattle.lt_texts.specs.Texts.{Left, left_of};
-ghost use Rattle.lt_texts.specs.WrongPlaces.{Wrong, IsWhole, IsViable, IsClear, Stands, Begins, NextCommand, AtEnd, FailsAt, HeaderFailsAt, IsFirstWrong, IsTypeAt, IsTermAt, TypeFailsAt, TermFailsAt};
+ghost use Rattle.lt_texts.specs.WrongPlaces.{Wrong, IsClear, Stands, Begins, NextCommand, AtEnd, FailsAt, HeaderFailsAt, IsFirstWrong, IsTypeAt, IsTermAt, TypeFailsAt, TermFailsAt};
 ghost use Rattle.lt_texts.specs.Writing.{TermText, term_of_text, type_lexemes, term_lexemes};
 ghost use Rattle.lt_texts.specs.declared.lexical.Lexed.TheVariants.{End};
 ghost use Rattle.lt_texts.specs.declared.lexical.TokenKind.TheVariants.{Name};
@@ -118,16 +118,6 @@ pub fn header_fault_is_first_wrong()
 pub fn one_first_wrong()
     ensures { (f : Form) (text : List ℕ) (e d : Wrong)
         → IsFirstWrong f text e → IsFirstWrong f text d → e ≡ d }
-{}
-
-/// Where a text of a form goes on with lexemes that were read, one of bytes does: lexemes that no
-/// bytes spell make nothing viable.
-pub fn what_goes_on_has_bytes()
-    ensures { (f : Form) (text : List ℕ) (ws : List Lexeme) (at : Left)
-        → IsName f.word × (f.number < 2 ^ 32)
-        → Reads (left_of text) ws at → IsViable (IsWhole f) ws
-        → (longer : List ℕ) × (more : List Lexeme) × IsRead longer (ws ++ more)
-        × (cs : List Command) × HasCommands f longer cs }
 {}
 
 /// A text with a wrong place has no reading.
