@@ -129,7 +129,7 @@ have_append (w ∷ ws) vs p q = (p.0, have_append ws vs p.1 q)
 
 -- ---- types and terms
 
-mutual
+abbrev mutual
   good-type : TypeTree → TypeTree
   good-type (type_variable a) = type_variable (good-name a)
   good-type (type_constructor c ts) = type_constructor (good-name c) (good-types ts)
@@ -162,7 +162,7 @@ arguments-good (t ∷ ts) rest =
     ∙ ap (type_lexemes (good-type t)) (types-good (row ts) (a_sign CloseSquare ∷ rest)
     ∙ ap (λ (z : TypeTrees). types_lexemes z (a_sign CloseSquare ∷ all-good rest)) (row-good ts)))
 
-mutual
+abbrev mutual
   pub good_term : TermText → TermText
   good_term (word c ts) = word (good-name c) (map good-type ts)
   good_term (bound x) = bound (good-name x)
@@ -222,7 +222,7 @@ variables-good : (names : List Chars) (rest : List Lexeme) → all-good (variabl
 variables-good [] rest = refl
 variables-good (a ∷ names) rest = ap (λ (z : List Lexeme). a_variable (good-name a) ∷ z) (variables-good names rest)
 
-good-part : (p : Part) → Text p → Text p
+abbrev good-part : (p : Part) → Text p → Text p
 good-part Label n = good-name n
 good-part Number k = good-number k
 good-part Variable a = good-name a
@@ -251,7 +251,7 @@ part-good AStatement a rest = term-good a rest
 part-good ATerm a rest = term-good a rest
 part-good (Exactly k) a rest = ap (λ (z : Lexeme). z ∷ all-good rest) (fixed-kept k)
 
-good-parts : (ps : List Part) → Texts ps → Texts ps
+abbrev good-parts : (ps : List Part) → Texts ps → Texts ps
 good-parts [] ts = ts
 good-parts (p ∷ ps) ts = (good-part p ts.0, good-parts ps ts.1)
 
@@ -264,7 +264,7 @@ row-good-by : (w : Chars) (ps : List Part) (ts : Texts ps) (rest : List Lexeme) 
     → all-good (a_name w ∷ parts_lexemes ps ts (a_sign Semicolon ∷ rest)) ≡ a_name w ∷ parts_lexemes ps (good-parts ps ts) (a_sign Semicolon ∷ all-good rest)
 row-good-by w ps ts rest h = λ i. word-kept w h i ∷ parts-good ps ts (a_sign Semicolon ∷ rest) i
 
-good-line : LineText → LineText
+abbrev good-line : LineText → LineText
 good-line (line w ts) = line w (good-parts (rule_row w).parts ts)
 
 lines-good : (ls : List LineText) (rest : List Lexeme) → all-good (lines_lexemes ls rest) ≡ lines_lexemes (map good-line ls) (all-good rest)
@@ -298,7 +298,7 @@ command-name RepEq = refl
 abbrev pub IsSpelt : Form → Type 0
 IsSpelt f = IsName f.word × (f.number < 2 ^ 32)
 
-good-sentence : PartText → PartText
+abbrev good-sentence : PartText → PartText
 good-sentence header = header
 good-sentence (item w ts) = item w (good-parts (item_row w).parts ts)
 good-sentence (lemma l p ls) = lemma (good-name l) (good_term p) (map good-line ls)
