@@ -1,11 +1,11 @@
 -- Each text of lexemes is one still where the names and numbers that no bytes spell are replaced by others.
-use Rattle.std.proofs.Common.{◌≡◌, ℕ, ◌<◌, ◌∙◌, ap, sym, refl, subst, Bool, true, false, List, [], ◌∷◌, ◌++◌, codes, Option, Some, None}
+use Rattle.std.proofs.Common.{◌≡◌, ℕ, ◌<◌, ◌∙◌, ap, sym, refl, subst, Bool, true, false, List, [], ◌∷◌, ◌++◌, codes, Some, None}
 use Rattle.std.specs.Prelude.{◌^◌, ◌&&◌, if◌then◌else◌, map, nat_lt}
 use Rattle.std.specs.Str.{all_scalars}
 use Rattle.std.proofs.lemmas.Bool.{ltb-true, lt-ltb}
 use Rattle.lt_texts.specs.declared.lexical.TokenKind.{TokenKind}
 use Rattle.lt_texts.specs.declared.lexical.TokenKind.TheVariants as kinds
-use Rattle.lt_texts.specs.declared.lexical.TokenKind.TheVariants.{Open, Close, OpenSquare, CloseSquare, OpenBrace, CloseBrace, Semicolon, Dollar, Percent, Backslash}
+use Rattle.lt_texts.specs.declared.lexical.TokenKind.TheVariants.{Open, Close, OpenSquare, CloseSquare, OpenBrace, CloseBrace, Semicolon, Dollar, Backslash}
 use Rattle.lt_definitions.specs.Characters.{is_name}
 use Rattle.lt_definitions.specs.Types.{Chars, TypeTree, TypeTrees, type_variable, type_constructor, no_types, type_and, row}
 use Rattle.lt_texts.specs.Lexemes.{Lexeme, a_name, a_variable, a_number, a_sign}
