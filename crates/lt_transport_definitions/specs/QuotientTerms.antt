@@ -25,6 +25,14 @@ four_at e ts = let m : TypeMap = entry_map e ts in record {
   corr = instance_with_type m e.four.corr;
 }
 
+-- the abstract type between which and the raw type a quotient's functions go
+abbrev pub abs_type_of : Four → TypeTree
+abs_type_of q = domain_type q.rep.ty
+
+-- the raw type
+abbrev pub raw_type_of : Four → TypeTree
+raw_type_of q = domain_type q.abs.ty
+
 -- eq, id, id and eq
 abbrev pub identity_four : TypeTree → Four
 identity_four t = record { rel = equality_at t; abs = table_constant "id" (t ∷ []); rep = table_constant "id" (t ∷ []); corr = equality_at t }

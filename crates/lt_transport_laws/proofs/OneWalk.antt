@@ -22,7 +22,7 @@ not-both x y e = cc
 pub session-one : SessionsAreOne
 session-one s c xs ys later other h x y =
     let e : x.0 ≡ y.0 = same-block x.0 y.0 (each-one s c (Ok x.0) (Ok y.0) h x.1 y.1) in
-    x.3 ∙ ap (session_behind s) e ∙ sym y.3
+    x.4 ∙ ap (session_behind s) e ∙ sym y.4
 
 pub walk-one : WalksAreOne
 walk-one s [] None xs ys end other h x y = x.1 ∙ sym y.1

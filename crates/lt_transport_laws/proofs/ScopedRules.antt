@@ -135,5 +135,5 @@ map-scoped h k (l ∷ ls) = first (h l) (k l) (filter_map h ls) (map-scoped h k 
 
 -- the rules of a session whose statements have no loose names
 pub rules-scoped : (s : Session) → AreScopedStatements s.context.statements → AllOf IsScopedRule (rules_now s)
-rules-scoped s h = map-scoped (rule_now s) (λ l.
-    rule_of-scoped (signature_of s) s.registry l (statement_at s l) (found-statement l s.context.statements h)) s.rules
+rules-scoped s h = map-scoped (rule_now s.context s.registry) (λ l.
+    rule_of-scoped s.context.signature s.registry l (found l s.context.statements) (found-statement l s.context.statements h)) s.rules

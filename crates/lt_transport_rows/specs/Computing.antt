@@ -41,7 +41,7 @@ quot_by_case f nothing abs raw = no_quotient_between abs raw
 -- the quotient between two types, if its depth is less than this
 abbrev pub quot_within : ℕ → Session → TypeTree → TypeTree → Quot
 quot_within zero s abs raw = no_quotient_between abs raw
-quot_within (suc n) s abs raw = quot_by_case (quot_within n s) (case_of s abs raw) abs raw
+quot_within (suc n) s abs raw = quot_by_case (quot_within n s) (case_of s.registry s.quotients abs raw) abs raw
 
 -- whether two expressions are one
 abbrev mutual
