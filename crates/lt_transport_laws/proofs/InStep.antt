@@ -187,7 +187,7 @@ context-one s (quotient_registered e) = refl
 context-one s (lifted_registered e) = refl
 context-one s (transport_registered e) = refl
 
-context-kept : (s : Session) (rs : List Registration) → (fold with_registration s rs).context ≡ s.context
+pub context-kept : (s : Session) (rs : List Registration) → (fold with_registration s rs).context ≡ s.context
 context-kept s [] = refl
 context-kept s (r ∷ rs) = context-kept (with_registration s r) rs ∙ context-one s r
 

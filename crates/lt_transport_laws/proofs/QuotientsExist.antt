@@ -251,7 +251,7 @@ mutual
 all-good : (G : Registry) (es : List QuotientEntry) (sig : Signature) → AreInOrder sig es → (n : ℕ) → AreGoodBelow G es sig n
 all-good G es sig o zero vs us (type_variable a) w g f u = value-good G es sig vs us a g
 all-good G es sig o zero vs us (type_constructor c ts) w g f u = absurd (omega arith)
-all-good G es sig o (suc n) = step G es sig o n (all-good G es sig o n)
+all-good G es sig o (suc n) vs us t w g f u = step G es sig o n (all-good G es sig o n) vs us t w g f u
 
 -- each constructor has a number that isn't above the length
 rank-bound : (xs : List Chars) (c : Chars) → rank xs c < suc (length xs)

@@ -5,12 +5,13 @@ use Rattle.lt_definitions.specs.Types.{Chars, found}
 use Rattle.lt_definitions.specs.Terms.{TermTree, HasNoLooseNames}
 use Rattle.lt_definitions.specs.Typing.{declared_arity}
 use Rattle.lt_definitions.specs.Items.{Item, Context}
+use Rattle.lt_definitions.specs.Theory.{AreValid, IsPlainTheory}
 use Rattle.lt_transport_definitions.specs.Relations.{Relator, Parametrised, DomainRule}
 use Rattle.lt_transport_definitions.specs.Sessions.{LiftedEntry, Session, signature_of}
 use Rattle.lt_transport_definitions.specs.Commands.{Command, CommandRefusal, Block, session_behind}
 use Rattle.lt_transport_definitions.specs.Rows.{BlockOutcome}
 use Rattle.lt_transport_definitions.specs.Blocks.{ComesOf, Gives}
-use Rattle.lt_transport_definitions.specs.TheoryWalks.{Placed, Unread, End, WalksOver, theory_commands}
+use Rattle.lt_transport_definitions.specs.TheoryWalks.{Placed, Unread, Cut, End, WalksOver, theory_commands, RunsText, items_of_blocks}
 use Rattle.lt_transport_laws.specs.Statements.{IsRegistry}
 
 -- Named statements without loose bound names.
@@ -47,6 +48,16 @@ AreScopedAlong s (c ∷ cs) = IsScopedSession s × ((items : List Item) (later :
 abbrev pub WalksAreOne : Type 0
 WalksAreOne = (s : Session) (cs : List (Placed Command)) (wrong : Option (Unread × ℕ)) (xs ys : List (List Item)) (end other : End CommandRefusal)
     → AreScopedAlong s cs → WalksOver theory_commands s cs wrong xs end → WalksOver theory_commands s cs wrong ys other → end ≡ other
+
+-- The items that a walk gives are valid one after another, over those before the walk.
+abbrev pub WalksArePlain : Type 0
+WalksArePlain = (s : Session) (cs : List (Placed Command)) (wrong : Option (Unread × ℕ)) (blocks : List (List Item)) (end : End CommandRefusal)
+    → WalksOver theory_commands s cs wrong blocks end → AreValid s.context (items_of_blocks blocks)
+
+-- The items of a run are a valid plain theory, however its text is cut.
+abbrev pub RunsArePlain : Type 0
+RunsArePlain = (Cuts : List ℕ → Cut Command → Type 0) (limit : ℕ) (text : List ℕ) (blocks : List (List Item)) (end : End CommandRefusal)
+    → RunsText Cuts limit text blocks end → IsPlainTheory (items_of_blocks blocks)
 
 -- A block leaves the registry one that meets what the laws ask, where bool is declared without arguments.
 abbrev pub RegistriesStaySound : Type 0
