@@ -65,5 +65,4 @@ cut-plain s (header_wrong why place) blocks end h = no-blocks s.context blocks h
 cut-plain s (has_commands cs wrong) blocks end h = walks-plain s cs wrong blocks end h
 
 pub runs-plain : RunsArePlain
-runs-plain Cuts limit text blocks end (inl h) = no-blocks (new_session limit).context blocks h.1
-runs-plain Cuts limit text blocks end (inr h) = cut-plain (new_session limit) h.1 blocks end h.3
+runs-plain limit cut blocks end h = cut-plain (new_session limit) cut blocks end h

@@ -7,11 +7,11 @@ use Rattle.lt_definitions.specs.Typing.{declared_arity}
 use Rattle.lt_definitions.specs.Items.{Item, Context}
 use Rattle.lt_definitions.specs.Theory.{AreValid, IsPlainTheory}
 use Rattle.lt_transport_definitions.specs.Relations.{Relator, Parametrised, DomainRule}
-use Rattle.lt_transport_definitions.specs.Sessions.{LiftedEntry, Session, signature_of}
+use Rattle.lt_transport_definitions.specs.Sessions.{LiftedEntry, Session, new_session, signature_of}
 use Rattle.lt_transport_definitions.specs.Commands.{Command, CommandRefusal, Block, session_behind}
 use Rattle.lt_transport_definitions.specs.Rows.{BlockOutcome}
 use Rattle.lt_transport_definitions.specs.Blocks.{ComesOf, Gives}
-use Rattle.lt_transport_definitions.specs.TheoryWalks.{Placed, Unread, Cut, End, WalksOver, theory_commands, RunsText, items_of_blocks}
+use Rattle.lt_transport_definitions.specs.TheoryWalks.{Placed, Unread, Cut, End, WalksOver, WalksCut, theory_commands, items_of_blocks}
 use Rattle.lt_transport_laws.specs.Statements.{IsRegistry}
 
 -- Named statements without loose bound names.
@@ -56,8 +56,8 @@ WalksArePlain = (s : Session) (cs : List (Placed Command)) (wrong : Option (Unre
 
 -- The items of a run are a valid plain theory, however its text is cut.
 abbrev pub RunsArePlain : Type 0
-RunsArePlain = (Cuts : List ℕ → Cut Command → Type 0) (limit : ℕ) (text : List ℕ) (blocks : List (List Item)) (end : End CommandRefusal)
-    → RunsText Cuts limit text blocks end → IsPlainTheory (items_of_blocks blocks)
+RunsArePlain = (limit : ℕ) (cut : Cut Command) (blocks : List (List Item)) (end : End CommandRefusal)
+    → WalksCut theory_commands (new_session limit) cut blocks end → IsPlainTheory (items_of_blocks blocks)
 
 -- A block leaves the registry one that meets what the laws ask, where bool is declared without arguments.
 abbrev pub RegistriesStaySound : Type 0
