@@ -60,9 +60,9 @@ derives-alpha sig named also done also_done (line ∷ lines) (s ∷ ss) e f d =
     let same : AreAlphaEqualLines line line = (refl, same-terms (terms_of line)) in
     let x = step_respects_alpha sig named also done also_done line line e f same d.0 in
     let y = ok-other s (step sig also also_done line)
-        (subst (λ (o : Outcome). IsAlphaEqualOutcome o (step sig also also_done line)) d.1 x) in
+    (subst (λ (o : Outcome). IsAlphaEqualOutcome o (step sig also also_done line)) d.1 x) in
     let z = derives-alpha sig named also (done ++ s ∷ []) (also_done ++ y.0 ∷ []) lines ss e
-        (sequents-on done also_done (s ∷ []) (y.0 ∷ []) f (y.2, y.3, tt)) d.2 in
+    (sequents-on done also_done (s ∷ []) (y.0 ∷ []) f (y.2, y.3, tt)) d.2 in
     (y.0 ∷ z.0, (d.0, y.1, z.1), (y.2, y.3, z.2))
 
 -- the last of sequents
@@ -88,9 +88,13 @@ proves-alpha : (sig : Signature) (ps qs : List (Chars × TermTree)) → AreAlpha
     → Proves (over sig ps) lines t → Proves (over sig qs) lines t
 proves-alpha sig ps qs e lines t h =
     let d = derives-alpha sig ps qs [] [] lines (h.0 ++ h.1 ∷ []) e tt h.2 in
-    let l = last-sequent h.0 h.1 d.0 d.2 in
-    (l.0, l.1, subst (λ (us : List Sequent). Derives sig qs [] lines us) l.2 d.1, no-terms h.1.hyps l.1.hyps h.3 l.3,
-    alpha_is_transitive l.1.concl h.1.concl t (alpha_is_symmetric h.1.concl l.1.concl l.4) h.4)
+    let l = last-sequent h.0 h.1 d.0 d.2 in (
+      l.0,
+      l.1,
+      subst (λ (us : List Sequent). Derives sig qs [] lines us) l.2 d.1,
+      no-terms h.1.hyps l.1.hyps h.3 l.3,
+      alpha_is_transitive l.1.concl h.1.concl t (alpha_is_symmetric h.1.concl l.1.concl l.4) h.4,
+    )
 
 -- labels
 
@@ -215,10 +219,17 @@ typedef-alpha n new raw p q a b h =
     let rep : TermTree = declared b (fun new raw) in
     let x : TermTree = bound_name (codes "r") in
     let first : IsAlphaEqual (rep_statement new raw p b) (rep_statement new raw q b) =
-        ((refl, refl), (refl, (alpha-on [] (codes "a") p q h, self-on (codes "a") (application rep (bound_name (codes "a")))))) in
-    let third : IsAlphaEqual (abs_inverse_statement new raw p a b) (abs_inverse_statement new raw q a b) =
-        ((refl, refl), (refl, (((refl, refl), (alpha-on [] (codes "r") p q h, self-on (codes "r") x)),
-        self-on (codes "r") (equation raw (application rep (application abs x)) x)))) in
+    ((refl, refl), (refl, (alpha-on [] (codes "a") p q h, self-on (codes "a") (application rep (bound_name (codes "a")))))) in
+    let third : IsAlphaEqual (abs_inverse_statement new raw p a b) (abs_inverse_statement new raw q a b) = (
+      (refl, refl),
+      (
+        refl,
+        (
+          ((refl, refl), (alpha-on [] (codes "r") p q h, self-on (codes "r") x)),
+          self-on (codes "r") (equation raw (application rep (application abs x)) x),
+        ),
+      ),
+    ) in
     (refl, first, (refl, alpha_is_reflexive (rep_inverse_statement new raw a b), (refl, third, tt)))
 
 -- One signature, and alpha-equal statements.
@@ -234,15 +245,20 @@ def-adds : (sig : Signature) (ps qs : List (Chars × TermTree)) → AreAlphaEqua
     → n ≡ m → ty ≡ uy → IsAlphaEqual t u → AreAlphaEqualContexts (with_item (over sig ps) (def_item n ty t)) (with_item (over sig qs) (def_item m uy u))
 def-adds sig ps qs e n m ty uy t u x y h =
     subst (λ (k : Chars). AreAlphaEqualContexts (with_item (over sig ps) (def_item n ty t)) (with_item (over sig qs) (def_item k uy u))) x
-    (subst (λ (k : TypeTree). AreAlphaEqualContexts (with_item (over sig ps) (def_item n ty t)) (with_item (over sig qs) (def_item n k u))) y
-    (refl, statements-on ps qs ((definition_label n, definition_statement n ty t) ∷ []) ((definition_label n, definition_statement n ty u) ∷ []) e
-    (refl, (((refl, refl), (refl, refl)), h), tt)))
+    (subst (λ (k : TypeTree). AreAlphaEqualContexts (with_item (over sig ps) (def_item n ty t)) (with_item (over sig qs) (def_item n k u))) y (
+      refl,
+      statements-on ps qs ((definition_label n, definition_statement n ty t) ∷ []) ((definition_label n, definition_statement n ty u) ∷ []) e
+          (refl, (((refl, refl), (refl, refl)), h), tt),
+    ))
 
 typedef-by : (sig : Signature) (ps qs : List (Chars × TermTree)) → AreAlphaEqualStatements ps qs → (n : Chars) (params : List Chars) (p q : TermTree) (a b : Chars)
     → IsAlphaEqual p q → (raw : Option TypeTree) → AreAlphaEqualContexts (with_typedef n params p a b raw (over sig ps)) (with_typedef n params q a b raw (over sig qs))
 typedef-by sig ps qs e n params p q a b h None = (refl, e)
-typedef-by sig ps qs e n params p q a b h (Some raw) = (refl, statements-on ps qs (typedef_statements n (new_type n params) raw p a b)
-    (typedef_statements n (new_type n params) raw q a b) e (typedef-alpha n (new_type n params) raw p q a b h))
+typedef-by sig ps qs e n params p q a b h (Some raw) = (
+  refl,
+  statements-on ps qs (typedef_statements n (new_type n params) raw p a b)
+      (typedef_statements n (new_type n params) raw q a b) e (typedef-alpha n (new_type n params) raw p q a b h),
+)
 
 typedef-adds : (sig : Signature) (ps qs : List (Chars × TermTree)) → AreAlphaEqualStatements ps qs
     → (n m : Chars) (xs ys : List Chars) (p q : TermTree) (l k a b r s : Chars) → n ≡ m → xs ≡ ys → IsAlphaEqual p q → a ≡ b → r ≡ s
@@ -309,5 +325,7 @@ valid-one c d e item h = (accepted_is_valid d item).1
 -- items that are valid over a context are valid over each that is alpha-equal
 pub valid-alpha : (c d : Context) → AreAlphaEqualContexts c d → (items : List Item) → AreValid c items → AreValid d items
 valid-alpha c d e [] h = tt
-valid-alpha c d e (item ∷ items) h = (valid-one c d e item h.0,
-    valid-alpha (with_item c item) (with_item d item) (adds-alpha c d e item item (item-same item)) items h.1)
+valid-alpha c d e (item ∷ items) h = (
+  valid-one c d e item h.0,
+  valid-alpha (with_item c item) (with_item d item) (adds-alpha c d e item item (item-same item)) items h.1,
+)

@@ -180,8 +180,8 @@ unfolding digits
 second-dead k w =
     let c = chosen-is 1 (k ∷ []) rule_implies (refl, (refl, tt)) w in
     let e : w.expression ≡ implication = subst (λ (L : ChosenStatement). (v : Assignment L) (e : Relation)
-        → IsAssignment registry_t question_bounded.signature L v → Corresponds registry_t question_bounded.signature [] L v e → e ≡ implication)
-        c.0 only-implied w.assignment w.expression w.assigned w.corresponds in
+    → IsAssignment registry_t question_bounded.signature L v → Corresponds registry_t question_bounded.signature [] L v e → e ≡ implication)
+    c.0 only-implied w.assignment w.expression w.assigned w.corresponds in
     top-not k w.expression e (subst (λ (o : Option ℕ). TopHolds equal o w.expression) (top-filled w.top k c.1) w.top_holds)
 
 -- the answer
@@ -390,6 +390,7 @@ by-second xs ys n e = n (ap second e)
 
 by-third : (xs ys : List ℕ) → (third xs ≡ third ys → ⊥) → xs ≡ ys → ⊥
 by-third xs ys n e = n (ap third e)
+
 none_0 : IsIn {A = List ℕ} (0 ∷ []) ((0 ∷ 0 ∷ []) ∷ (0 ∷ 1 ∷ []) ∷ (0 ∷ 2 ∷ []) ∷ (0 ∷ 1 ∷ 0 ∷ []) ∷ (0 ∷ 2 ∷ 0 ∷ []) ∷ []) → ⊥
 none_0 (inl e) = by-second (0 ∷ []) (0 ∷ 0 ∷ []) (λ x. omega arith) e
 none_0 (inr (inl e)) = by-second (0 ∷ []) (0 ∷ 1 ∷ []) (λ x. omega arith) e

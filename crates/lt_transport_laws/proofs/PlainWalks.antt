@@ -48,7 +48,7 @@ one-block : (s later : Session) (c : Command) (items : List Item) (more blocks :
     → AreValid later.context (items_of_blocks more) → AreValid s.context (items_of_blocks blocks)
 one-block s later c items more blocks g e h =
     let k : AreValid (session_behind s g.0).context (items_of_blocks more) =
-        subst (λ (t : Session). AreValid t.context (items_of_blocks more)) g.4 h in
+    subst (λ (t : Session). AreValid t.context (items_of_blocks more)) g.4 h in
     let v = valid-alpha (session_behind s g.0).context (context_of s.context items) (behind-alpha s g.0 items g.2) (items_of_blocks more) k in
     subst (λ (bs : List (List Item)). AreValid s.context (items_of_blocks bs)) (sym e) (valid-on s.context items (items_of_blocks more) g.3 v)
 

@@ -185,20 +185,23 @@ by-entry G es sig o m below c ts r w g raw e x y None z =
 by-entry G es sig o m below c ts r w g raw e x y (Some p) z =
     let whole = case-from G es (type_constructor c ts) raw false false (Some p) x y z in
     elim (bool_cases (same_type (raw_at p.0 p.1) raw)) [
-      | inl s ↦ (registered_quotient p.0 p.1,
-          whole ∙ if-true (same_type (raw_at p.0 p.1) raw) (that_quotient p.0 p.1) (another_raw_type p.0 p.1) s)
+      | inl s ↦ (
+        registered_quotient p.0 p.1,
+        whole ∙ if-true (same_type (raw_at p.0 p.1) raw) (that_quotient p.0 p.1) (another_raw_type p.0 p.1) s,
+      )
       | inr s ↦
           let k = entry-parts (quotient_of es c) (listed ts) p z in
           let f = found-in-order sig es c p.0 o k.0 in
           let q : c ≡ constructor_name p.0.abs_type = f.1 ∙ sym f.0.named in
           let row_is : row p.1 ≡ ts = ap row (sym k.1) ∙ row-listed ts in
           let rank_is : rank (type_names_of sig) (constructor_name p.0.abs_type) < suc m =
-              subst (λ (d : Chars). rank (type_names_of sig) d < suc m) q r in
+          subst (λ (d : Chars). rank (type_names_of sig) d < suc m) q r in
           let under = under-ordered (type_names_of sig) (constructor_name p.0.abs_type) m rank_is p.0.raw_type f.0.order in
           let mid = below (type_variables p.0.abs_type) p.1 p.0.raw_type (ap (types_fault sig) row_is ∙ w)
-              (subst (AreGood G es sig) (sym row_is) g) f.0.sound under raw e in
-          (composed_quotient mid.0 p.0 p.1,
-          (whole ∙ if-false (same_type (raw_at p.0 p.1) raw) (that_quotient p.0 p.1) (another_raw_type p.0 p.1) s, mid.1))
+          (subst (AreGood G es sig) (sym row_is) g) f.0.sound under raw e in (
+            composed_quotient mid.0 p.0 p.1,
+            (whole ∙ if-false (same_type (raw_at p.0 p.1) raw) (that_quotient p.0 p.1) (another_raw_type p.0 p.1) s, mid.1),
+          )
     ]
 
 -- by a relator
@@ -212,16 +215,23 @@ by-relator G es sig c ts w g (type_constructor d us) e x y =
     let h = first-none (constructor_fault c (length (listed ts)) (declared_arity sig c)) (types_fault sig ts) w in
     let k = first-none (constructor_fault d (length (listed us)) (declared_arity sig d)) (types_fault sig us) e in
     let l = subst (λ (b : Chars). constructor_fault b (length (listed us)) (declared_arity sig b) ≡ None) (sym n) k.0 in
-    let qs = quots-exist G es sig ts us g k.1 (count-is c (length (listed ts)) (length (listed us)) (declared_arity sig c) h.0 l) in
-    (relator_quotient c qs.0,
-    (case-from G es (type_constructor c ts) (type_constructor d us) false true (entry_of es (type_constructor c ts)) x y refl, refl, qs.1))
+    let qs = quots-exist G es sig ts us g k.1 (count-is c (length (listed ts)) (length (listed us)) (declared_arity sig c) h.0 l) in (
+      relator_quotient c qs.0,
+      (case-from G es (type_constructor c ts) (type_constructor d us) false true (entry_of es (type_constructor c ts)) x y refl, refl, qs.1),
+    )
 
 constructor-good : (G : Registry) (es : List QuotientEntry) (sig : Signature) → AreInOrder sig es → (m : ℕ) → AreGoodBelow G es sig m
     → (c : Chars) (ts : TypeTrees) → rank (type_names_of sig) c < suc m → type_fault sig (type_constructor c ts) ≡ None → AreGood G es sig ts
     → IsGood G es sig (type_constructor c ts)
 constructor-good G es sig o m below c ts r w g raw e = elim (bool_cases (same_type (type_constructor c ts) raw)) [
-  | inl s ↦ (identity_quotient (type_constructor c ts), (case-from G es (type_constructor c ts) raw true
-      (have_one_relator G (type_constructor c ts) raw) (entry_of es (type_constructor c ts)) s refl refl, refl))
+  | inl s ↦ (
+    identity_quotient (type_constructor c ts),
+    (
+      case-from G es (type_constructor c ts) raw true
+          (have_one_relator G (type_constructor c ts) raw) (entry_of es (type_constructor c ts)) s refl refl,
+      refl,
+    ),
+  )
   | inr s ↦ elim (bool_cases (have_one_relator G (type_constructor c ts) raw)) [
     | inl y ↦ by-relator G es sig c ts w g raw e s y
     | inr y ↦ by-entry G es sig o m below c ts r

@@ -43,7 +43,13 @@ bounded_items = typedef_items ++ (map (λ p. axiom_item p.0 p.1.term) further_st
 -- the quotient of t
 abbrev pub t_entry : QuotientEntry
 t_entry = typedef_entry (codes "t")
-    (record { name = codes "t"; params = []; predicate = con "P"; abs = codes "abs_t"; rep = codes "rep_t" }) P
+    (record {
+      name = codes "t";
+      params = [];
+      predicate = con "P";
+      abs = codes "abs_t";
+      rep = codes "rep_t";
+    }) P
 
 -- the session with it
 abbrev pub over_t : Session
@@ -56,7 +62,8 @@ predicate_quotient = relator_quotient (codes "fun")
 
 -- with k, which lifts h
 abbrev pub over_k : Session
-over_k = session_behind over_t (block_in (adds_lifted over_t (codes "k") (t ⇒ bool) h (codes "k_resp")
+over_k = session_behind over_t
+    (block_in (adds_lifted over_t (codes "k") (t ⇒ bool) h (codes "k_resp")
     (four_of over_t.registry predicate_quotient)))
 
 -- with three rules of the quantifier
@@ -121,7 +128,9 @@ rule_bounded = record {
   sides = (right_total, 0) ∷ [];
   relation = function_relator predicates_over_A (equality bool);
   raw = lambda "P" (tyvar "a" ⇒ bool) (for_all (tyvar "a") (lambda "x" (tyvar "a")
-      (implies (app (app (con_at "Domainp" (tyvar "a" ∷ tyvar "b" ∷ [])) (free "A1" (tyvar "a" ~ tyvar "b"))) (bound "x"))
+      (implies (app
+      (app (con_at "Domainp" (tyvar "a" ∷ tyvar "b" ∷ [])) (free "A1" (tyvar "a" ~ tyvar "b")))
+      (bound "x"))
       (app (bound "P") (bound "x")))));
   constant = codes "all";
   pattern = tyvar "b" ∷ [];

@@ -32,9 +32,11 @@ AreFormsNamed G = (c : Chars) (p : Parametrised) → form_for G c ≡ Some p
 
 -- Equality at a type, in normal form, is an expression.
 abbrev pub EqualitiesAreExpressions : Type 0
-EqualitiesAreExpressions = (G : Registry) (t : TypeTree) → IsRegistry G → IsExpression G (normal_equality G t)
+EqualitiesAreExpressions =
+    (G : Registry) (t : TypeTree) → IsRegistry G → IsExpression G (normal_equality G t)
 
 -- The normal form of an expression is one.
 abbrev pub NormalFormsAreExpressions : Type 0
-NormalFormsAreExpressions = (G : Registry) (r : Relation) → IsRegistry G → AreFormsNamed G → IsFormed G r
+NormalFormsAreExpressions =
+    (G : Registry) (r : Relation) → IsRegistry G → AreFormsNamed G → IsFormed G r
     → IsExpression G (normal G r)

@@ -20,7 +20,8 @@ rule_all = record {
   label = codes "all_transfer";
   variables = record { name = codes "A1"; left_name = codes "a"; right_name = codes "b" } ∷ [];
   sides = (bi_total, 0) ∷ [];
-  relation = function_relator (function_relator (relation_variable 0 (tyvar "b")) (equality bool)) (equality bool);
+  relation = function_relator (function_relator (relation_variable 0 (tyvar "b")) (equality bool))
+      (equality bool);
   raw = con_at "all" (tyvar "a" ∷ []);
   constant = codes "all";
   pattern = tyvar "b" ∷ [];

@@ -13,7 +13,8 @@ ghost use Rattle.lt_transport_laws.specs.SearchSamples.{int, always_true, questi
 
 /// The statement `s z` has a solution by the first candidates, and its image is `p a`.
 pub fn a_solution()
-    ensures solution { (w : Solution question_s_z first_choices) × IsWhole question_s_z first_choices × (image_by w ≡ app (con "p") (con "a")) }
+    ensures solution { (w : Solution question_s_z first_choices)
+        × IsWhole question_s_z first_choices × (image_by w ≡ app (con "p") (con "a")) }
 {}
 
 /// Its search has three visits, so a limit of two is passed.
@@ -22,9 +23,9 @@ pub fn visits_of_a_search()
     ensures limit { IsSearchLimit question_s_z 2 }
 {}
 
-/// The search for the image of `all x. k x`, over a typedef with a lifted predicate and three rules of
-/// the quantifier, has six visits: one for `k`, three for `all`, two for the top. Its session comes of
-/// a text, and the third rule is the answer.
+/// The search for the image of `all x. k x`, over a typedef with a lifted predicate and three rules
+/// of the quantifier, has six visits: one for `k`, three for `all`, two for the top. Its session
+/// comes of a text, and the third rule is the answer.
 pub fn visits_of_a_bounded_quantifier()
     ensures reached { IsReached over_bounded }
     ensures asked { question_bounded ≡ question_of over_bounded equal all_k }
@@ -33,9 +34,11 @@ pub fn visits_of_a_bounded_quantifier()
         × IsAnswer question_bounded (0 ∷ 2 ∷ 0 ∷ []) w }
 {}
 
-/// `all x. true` over a type of which nothing is registered: the least solution is equality, and the image the statement itself.
+/// `all x. true` over a type of which nothing is registered: the least solution is equality, and
+/// the image the statement itself.
 pub fn least_is_equality()
-    ensures least { (w : Solution question_true first_choices) × IsLeast w × (relations_of w ≡ equality int ∷ equality int ∷ []) × (image_by w ≡ always_true) }
+    ensures least { (w : Solution question_true first_choices) × IsLeast w
+        × (relations_of w ≡ equality int ∷ equality int ∷ []) × (image_by w ≡ always_true) }
 {}
 
 /// The step of a redex, and a normal form that is reached after it.

@@ -1,7 +1,8 @@
 //! Laws of sessions and walks. Each function does nothing: its contract is the law.
 ghost use Rattle.lt_transport_laws.specs.SessionStatements.{EachOutcomeIsOne, SessionsAreOne, WalksAreOne, WalksArePlain, RunsArePlain, RegistriesStaySound, SessionsStayInStep};
 
-/// One outcome comes of each command, transports included, where each statement of the session has its binders.
+/// One outcome comes of each command, transports included, where each statement of the session has
+/// its binders.
 pub fn each_outcome_is_one()
     ensures { EachOutcomeIsOne }
 {}

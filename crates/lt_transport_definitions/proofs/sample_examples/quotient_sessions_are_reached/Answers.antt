@@ -35,9 +35,43 @@ returns-clause-few_laws c = on lawless_boxes over_few_laws
     ∷ law_command (codes "quotient_compose") (codes "quotient_compose") ∷ law_command (codes "quotient_lift") (codes "quotient_lift")
     ∷ lifting_command (codes "Q_box")
     ∷ lift_command (codes "lifted") (box (tyvar "a")) (constant (codes "none") (tyvar "a" ∷ [])) (codes "none_resp") ∷ [])
-    (returns-clause-lawless c)
-    (_, refl, (_, refl, (_, refl, (_, refl, (_, refl, (_, refl, (_, refl, (_, refl, (_, refl,
-    (_, (registered_quotient box_entry (tyvar "a" ∷ []), refl, refl), refl))))))))))
+    (returns-clause-lawless c) (
+      _,
+      refl,
+      (
+        _,
+        refl,
+        (
+          _,
+          refl,
+          (
+            _,
+            refl,
+            (
+              _,
+              refl,
+              (
+                _,
+                refl,
+                (
+                  _,
+                  refl,
+                  (
+                    _,
+                    refl,
+                    (
+                      _,
+                      refl,
+                      (_, (registered_quotient box_entry (tyvar "a" ∷ []), refl, refl), refl),
+                    ),
+                  ),
+                ),
+              ),
+            ),
+          ),
+        ),
+      ),
+    )
 
 pub returns-clause-lifted : goal.returns-clause-lifted
 unfolding digits
