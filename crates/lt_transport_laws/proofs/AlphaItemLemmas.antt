@@ -18,6 +18,7 @@ use Rattle.lt_nameless.proofs.AlphaSteps.{step_respects_alpha}
 use Rattle.lt_nameless.proofs.BooleanSteps.{typed-alpha}
 use Rattle.lt_nameless.proofs.Refusals.{accepted_is_valid}
 use Rattle.lt_transport_definitions.specs.AlphaItems.{IsAlphaEqualItem, AreAlphaEqualRules}
+use Rattle.lt_transport_laws.specs.OrderStatements.{AreAlphaEqualContexts}
 use Rattle.lt_transport_laws.proofs.Deciding.{decide_name}
 
 -- the same statements
@@ -111,7 +112,7 @@ new-alpha (p ∷ ps) (q ∷ qs) l h e = elim (bool_cases (same_name l p.0)) [
     some-none : {t : TermTree} → ◌≡◌ {A = Option TermTree} (Some t) None → ⊥
     some-none e = cc
 
-found-alpha : (ps qs : List (Chars × TermTree)) (l : Chars) (t : TermTree) → AreAlphaEqualStatements ps qs → found l ps ≡ Some t
+pub found-alpha : (ps qs : List (Chars × TermTree)) (l : Chars) (t : TermTree) → AreAlphaEqualStatements ps qs → found l ps ≡ Some t
     → (u : TermTree) × (found l qs ≡ Some u) × IsAlphaEqual t u
 found-alpha [] [] l t h e = absurd (cc)
 found-alpha [] (q ∷ qs) l t h e = absurd h
@@ -232,10 +233,6 @@ typedef-alpha n new raw p q a b h =
     ) in
     (refl, first, (refl, alpha_is_reflexive (rep_inverse_statement new raw a b), (refl, third, tt)))
 
--- One signature, and alpha-equal statements.
-abbrev pub AreAlphaEqualContexts : Context → Context → Type 0
-AreAlphaEqualContexts c d = (c.signature ≡ d.signature) × AreAlphaEqualStatements c.statements d.statements
-
 -- what alpha-equal items add to alpha-equal statements
 axiom-adds : (sig : Signature) (ps qs : List (Chars × TermTree)) → AreAlphaEqualStatements ps qs → (l m : Chars) (t u : TermTree) → l ≡ m → IsAlphaEqual t u
     → AreAlphaEqualContexts (with_statements ((l, t) ∷ []) (over sig ps)) (with_statements ((m, u) ∷ []) (over sig qs))
@@ -304,7 +301,7 @@ rules-same : (rs : List (Rule TermTree)) → AreAlphaEqualRules rs rs
 rules-same [] = tt
 rules-same (r ∷ rs) = ((refl, same-terms (terms_of r)), rules-same rs)
 
-item-same : (i : Item) → IsAlphaEqualItem i i
+pub item-same : (i : Item) → IsAlphaEqualItem i i
 item-same (type_item n k) = refl
 item-same (const_item n ty) = refl
 item-same (axiom_item l t) = (refl, alpha_is_reflexive t)

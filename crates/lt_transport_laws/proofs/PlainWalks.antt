@@ -12,11 +12,12 @@ use Rattle.lt_transport_definitions.specs.AlphaItems.{IsAlphaEqualItem, IsItemOf
 use Rattle.lt_transport_definitions.specs.Blocks.{Gives}
 use Rattle.lt_transport_definitions.specs.TheoryWalks.{Placed, Unread, Cut, header_wrong, has_commands, End, WalksOver, WalksCut, theory_commands, items_of_blocks}
 use Rattle.lt_transport_laws.specs.SessionStatements.{WalksArePlain, RunsArePlain}
-use Rattle.lt_transport_laws.proofs.AlphaItemLemmas.{AreAlphaEqualContexts, same-statements, adds-alpha, valid-alpha}
+use Rattle.lt_transport_laws.specs.OrderStatements.{AreAlphaEqualContexts}
+use Rattle.lt_transport_laws.proofs.AlphaItemLemmas.{same-statements, adds-alpha, valid-alpha}
 use Rattle.lt_transport_laws.proofs.InStep.{context-kept}
 
 -- an addition and its item add the same
-one-adds : (c d : Context) → AreAlphaEqualContexts c d → (a : Addition) (item : Item) → IsItemOf a item
+pub one-adds : (c d : Context) → AreAlphaEqualContexts c d → (a : Addition) (item : Item) → IsItemOf a item
     → AreAlphaEqualContexts (with_item c (item_of a)) (with_item d item)
 one-adds c d e (this_item i) item h = adds-alpha c d e i item h
 one-adds c d e (a_lemma l t) item h = adds-alpha c d e (lemma_item l t h.0) item h.1
@@ -31,13 +32,13 @@ all-add s d (a ∷ additions) (item ∷ items) e h =
     all-add (with_addition s a) (with_item d item) additions items (one-adds s.context d e a item h.0) h.1
 
 -- the items of a block leave what the block leaves
-behind-alpha : (s : Session) (b : Block) (items : List Item) → AreItemsOf b.additions items
+pub behind-alpha : (s : Session) (b : Block) (items : List Item) → AreItemsOf b.additions items
     → AreAlphaEqualContexts (session_behind s b).context (context_of s.context items)
 behind-alpha s b items h = subst (λ (c : Context). AreAlphaEqualContexts c (context_of s.context items))
     (sym (context-kept (fold with_addition s b.additions) b.registrations))
     (all-add s s.context b.additions items (refl, same-statements s.context.statements) h)
 
-valid-on : (ctx : Context) (xs ys : List Item) → AreValid ctx xs → AreValid (context_of ctx xs) ys → AreValid ctx (xs ++ ys)
+pub valid-on : (ctx : Context) (xs ys : List Item) → AreValid ctx xs → AreValid (context_of ctx xs) ys → AreValid ctx (xs ++ ys)
 valid-on ctx [] ys h k = k
 valid-on ctx (x ∷ xs) ys h k = (h.0, valid-on (with_item ctx x) xs ys h.1 k)
 
