@@ -1,11 +1,10 @@
 -- The sessions of the examples come of texts.
-use Rattle.std.specs.Prelude.{◌≡◌, List, [], ◌∷◌, ◌++◌, None, map, codes}
+use Rattle.std.specs.Prelude.{◌≡◌, List, [], ◌++◌, None, map}
 use Rattle.std.proofs.Common.{refl}
 use Rattle.std.specs.Fmt.{digits}
-use Rattle.lt_definitions.specs.Types.{Chars}
 use Rattle.lt_definitions.specs.Items.{Item}
 use Rattle.lt_definitions.specs.Theory.{checked}
-use Rattle.lt_transport_definitions.specs.LawTexts.{laws, laws_of_lifting, laws_of_lift}
+use Rattle.lt_transport_definitions.specs.LawTexts.{laws}
 use Rattle.lt_transport_definitions.specs.Sessions.{Session, new_session}
 use Rattle.lt_transport_definitions.specs.Commands.{Command, item_command, law_command}
 use Rattle.lt_transport_definitions.specs.Samples.{LeadTo, IsReached, behind_items, with_laws, law_items, behind_laws, session_over}

@@ -2,10 +2,10 @@
 -- Source: this project's own.
 use Rattle.std.specs.Prelude.{List, [], ◌∷◌, ◌++◌, map, codes, fold}
 use Prim.Native.String.{String}
-use Rattle.lt_definitions.specs.Samples.{nat, tyvar, type_of_args, con, numbers}
+use Rattle.lt_definitions.specs.Samples.{nat, tyvar, type_of_args, numbers}
 use Rattle.lt_definitions.specs.Types.{TypeTree, bool}
 use Rattle.lt_definitions.specs.Terms.{TermTree}
-use Rattle.lt_definitions.specs.Items.{Item, type_item, const_item, axiom_item, empty}
+use Rattle.lt_definitions.specs.Items.{Item, type_item, const_item, axiom_item}
 use Rattle.lt_transport_definitions.specs.Notation.{WithType, ◌⇒◌, ◌~◌, ◌·◌, ◌≐◌, equality_at}
 use Rattle.lt_transport_definitions.specs.Constants.{apply, rel_fun, relcompp, domainp, quotient}
 use Rattle.lt_transport_definitions.specs.Relations.{right_total, Correspondence}

@@ -1,13 +1,13 @@
 -- Sessions over quotients, forms and rules, of which the examples of refusals speak.
 -- Source: this project's own.
-use Rattle.std.specs.Prelude.{List, [], ◌∷◌, ◌++◌, map, codes, false}
+use Rattle.std.specs.Prelude.{List, [], ◌∷◌, ◌++◌, codes, false}
 use Rattle.lt_definitions.specs.Samples.{nat, tyvar, con}
 use Rattle.lt_definitions.specs.Types.{TypeTree, bool}
 use Rattle.lt_definitions.specs.Terms.{falsity}
 use Rattle.lt_definitions.specs.Items.{Item, type_item, const_item, axiom_item, empty, context_of}
 use Rattle.lt_definitions.specs.Typing.{Signature}
 use Rattle.lt_transport_definitions.specs.Notation.{WithType, ◌⇒◌, ◌~◌}
-use Rattle.lt_transport_definitions.specs.Constants.{table_type, relcompp, quotient}
+use Rattle.lt_transport_definitions.specs.Constants.{table_type}
 use Rattle.lt_transport_definitions.specs.Relations.{Correspondence, Parametrised, Registry}
 use Rattle.lt_transport_definitions.specs.RelatorForm.{equality_statement, quotient_statement, composition_statement, relator_type, mapping_type}
 use Rattle.lt_transport_definitions.specs.Search.{equal}

@@ -1,12 +1,11 @@
 use Rattle.std.proofs.Common.{refl}
 use Rattle.std.specs.Prelude.{[], ◌∷◌, codes}
 use Rattle.std.specs.Fmt.{digits}
-use Rattle.lt_definitions.specs.Samples.{con, tyvar}
+use Rattle.lt_definitions.specs.Samples.{tyvar}
 use Rattle.lt_definitions.specs.Terms.{constant}
 use Rattle.lt_transport_definitions.specs.Quotients.{registered_quotient}
 use Rattle.lt_transport_definitions.specs.Commands.{lifting_command, lifting_typedef_command, lift_command, corr_command, property_command, domain_command, parametric_command, law_command}
-use Rattle.lt_transport_definitions.specs.LawTexts.{laws_of_lifting, laws_of_lift}
-use Rattle.lt_transport_definitions.specs.Samples.{behind_laws, with_laws, over_typedef_t, typedef_items}
+use Rattle.lt_transport_definitions.specs.Samples.{behind_laws, over_typedef_t, typedef_items}
 use Rattle.lt_transport_definitions.specs.RefusalSamples.{box, box_theory, box_entry, over_boxes, lawless_boxes, over_correspondence, over_few_laws, over_quotient_of_box, over_quotient_of_arr, over_form, over_quotient_of_t}
 use Rattle.lt_transport_definitions.proofs.Reached.{behind-reached, on, on-items, over-reached}
 use Rattle.lt_transport_definitions.proofs.sample_examples.quotient_sessions_are_reached.Goals as goal
