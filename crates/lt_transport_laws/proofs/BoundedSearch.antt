@@ -392,33 +392,33 @@ by-third : (xs ys : List ℕ) → (third xs ≡ third ys → ⊥) → xs ≡ ys 
 by-third xs ys n e = n (ap third e)
 
 none_0 : IsIn {A = List ℕ} (0 ∷ []) ((0 ∷ 0 ∷ []) ∷ (0 ∷ 1 ∷ []) ∷ (0 ∷ 2 ∷ []) ∷ (0 ∷ 1 ∷ 0 ∷ []) ∷ (0 ∷ 2 ∷ 0 ∷ []) ∷ []) → ⊥
-none_0 (inl e) = by-second (0 ∷ []) (0 ∷ 0 ∷ []) (λ x. omega arith) e
-none_0 (inr (inl e)) = by-second (0 ∷ []) (0 ∷ 1 ∷ []) (λ x. omega arith) e
-none_0 (inr (inr (inl e))) = by-second (0 ∷ []) (0 ∷ 2 ∷ []) (λ x. omega arith) e
-none_0 (inr (inr (inr (inl e)))) = by-second (0 ∷ []) (0 ∷ 1 ∷ 0 ∷ []) (λ x. omega arith) e
-none_0 (inr (inr (inr (inr (inl e))))) = by-second (0 ∷ []) (0 ∷ 2 ∷ 0 ∷ []) (λ x. omega arith) e
+none_0 (inl e) = by-second (0 ∷ []) (0 ∷ 0 ∷ []) (λ x. let y : 9 ≡ 0 = x in omega arith) e
+none_0 (inr (inl e)) = by-second (0 ∷ []) (0 ∷ 1 ∷ []) (λ x. let y : 9 ≡ 1 = x in omega arith) e
+none_0 (inr (inr (inl e))) = by-second (0 ∷ []) (0 ∷ 2 ∷ []) (λ x. let y : 9 ≡ 2 = x in omega arith) e
+none_0 (inr (inr (inr (inl e)))) = by-second (0 ∷ []) (0 ∷ 1 ∷ 0 ∷ []) (λ x. let y : 9 ≡ 1 = x in omega arith) e
+none_0 (inr (inr (inr (inr (inl e))))) = by-second (0 ∷ []) (0 ∷ 2 ∷ 0 ∷ []) (λ x. let y : 9 ≡ 2 = x in omega arith) e
 none_0 (inr (inr (inr (inr (inr e))))) = e
 
 none_1 : IsIn {A = List ℕ} (0 ∷ 0 ∷ []) ((0 ∷ 1 ∷ []) ∷ (0 ∷ 2 ∷ []) ∷ (0 ∷ 1 ∷ 0 ∷ []) ∷ (0 ∷ 2 ∷ 0 ∷ []) ∷ []) → ⊥
-none_1 (inl e) = by-second (0 ∷ 0 ∷ []) (0 ∷ 1 ∷ []) (λ x. omega arith) e
-none_1 (inr (inl e)) = by-second (0 ∷ 0 ∷ []) (0 ∷ 2 ∷ []) (λ x. omega arith) e
-none_1 (inr (inr (inl e))) = by-second (0 ∷ 0 ∷ []) (0 ∷ 1 ∷ 0 ∷ []) (λ x. omega arith) e
-none_1 (inr (inr (inr (inl e)))) = by-second (0 ∷ 0 ∷ []) (0 ∷ 2 ∷ 0 ∷ []) (λ x. omega arith) e
+none_1 (inl e) = by-second (0 ∷ 0 ∷ []) (0 ∷ 1 ∷ []) (λ x. let y : 0 ≡ 1 = x in omega arith) e
+none_1 (inr (inl e)) = by-second (0 ∷ 0 ∷ []) (0 ∷ 2 ∷ []) (λ x. let y : 0 ≡ 2 = x in omega arith) e
+none_1 (inr (inr (inl e))) = by-second (0 ∷ 0 ∷ []) (0 ∷ 1 ∷ 0 ∷ []) (λ x. let y : 0 ≡ 1 = x in omega arith) e
+none_1 (inr (inr (inr (inl e)))) = by-second (0 ∷ 0 ∷ []) (0 ∷ 2 ∷ 0 ∷ []) (λ x. let y : 0 ≡ 2 = x in omega arith) e
 none_1 (inr (inr (inr (inr e)))) = e
 
 none_2 : IsIn {A = List ℕ} (0 ∷ 1 ∷ []) ((0 ∷ 2 ∷ []) ∷ (0 ∷ 1 ∷ 0 ∷ []) ∷ (0 ∷ 2 ∷ 0 ∷ []) ∷ []) → ⊥
-none_2 (inl e) = by-second (0 ∷ 1 ∷ []) (0 ∷ 2 ∷ []) (λ x. omega arith) e
-none_2 (inr (inl e)) = by-third (0 ∷ 1 ∷ []) (0 ∷ 1 ∷ 0 ∷ []) (λ x. omega arith) e
-none_2 (inr (inr (inl e))) = by-second (0 ∷ 1 ∷ []) (0 ∷ 2 ∷ 0 ∷ []) (λ x. omega arith) e
+none_2 (inl e) = by-second (0 ∷ 1 ∷ []) (0 ∷ 2 ∷ []) (λ x. let y : 1 ≡ 2 = x in omega arith) e
+none_2 (inr (inl e)) = by-third (0 ∷ 1 ∷ []) (0 ∷ 1 ∷ 0 ∷ []) (λ x. let y : 9 ≡ 0 = x in omega arith) e
+none_2 (inr (inr (inl e))) = by-second (0 ∷ 1 ∷ []) (0 ∷ 2 ∷ 0 ∷ []) (λ x. let y : 1 ≡ 2 = x in omega arith) e
 none_2 (inr (inr (inr e))) = e
 
 none_3 : IsIn {A = List ℕ} (0 ∷ 2 ∷ []) ((0 ∷ 1 ∷ 0 ∷ []) ∷ (0 ∷ 2 ∷ 0 ∷ []) ∷ []) → ⊥
-none_3 (inl e) = by-second (0 ∷ 2 ∷ []) (0 ∷ 1 ∷ 0 ∷ []) (λ x. omega arith) e
-none_3 (inr (inl e)) = by-third (0 ∷ 2 ∷ []) (0 ∷ 2 ∷ 0 ∷ []) (λ x. omega arith) e
+none_3 (inl e) = by-second (0 ∷ 2 ∷ []) (0 ∷ 1 ∷ 0 ∷ []) (λ x. let y : 2 ≡ 1 = x in omega arith) e
+none_3 (inr (inl e)) = by-third (0 ∷ 2 ∷ []) (0 ∷ 2 ∷ 0 ∷ []) (λ x. let y : 9 ≡ 0 = x in omega arith) e
 none_3 (inr (inr e)) = e
 
 none_4 : IsIn {A = List ℕ} (0 ∷ 1 ∷ 0 ∷ []) ((0 ∷ 2 ∷ 0 ∷ []) ∷ []) → ⊥
-none_4 (inl e) = by-second (0 ∷ 1 ∷ 0 ∷ []) (0 ∷ 2 ∷ 0 ∷ []) (λ x. omega arith) e
+none_4 (inl e) = by-second (0 ∷ 1 ∷ 0 ∷ []) (0 ∷ 2 ∷ 0 ∷ []) (λ x. let y : 1 ≡ 2 = x in omega arith) e
 none_4 (inr e) = e
 
 none_5 : IsIn {A = List ℕ} (0 ∷ 2 ∷ 0 ∷ []) [] → ⊥

@@ -12,7 +12,8 @@ use Rattle.lt_definitions.specs.Items.{Item, Context, with_item, context_of, new
 use Rattle.lt_definitions.proofs.SameNames.{true-false, bool_cases, name-true, true-name, name-false}
 use Rattle.lt_definitions.proofs.TypingLemmas.{both-none}
 use Rattle.lt_nameless.proofs.BindingLemmas.{if-true, if-false}
-use Rattle.lt_nameless.proofs.MoreDeclarations.{type-more, typed-more}
+use Rattle.lt_nameless.proofs.MoreDeclarations.{type-more, has-more}
+use Rattle.lt_nameless.proofs.Typings.{typed-has, has-typed}
 use Rattle.lt_nameless.proofs.LaterItems.{Keeps, keeps-items}
 use Rattle.lt_transport_definitions.specs.Forms.{constructor_name}
 use Rattle.lt_transport_definitions.specs.Sessions.{Typedef, QuotientEntry}
@@ -103,7 +104,7 @@ entries-more sig more (e ∷ es) g h = (
 
 -- a term with a type keeps it
 pub typed-kept : (sig more : Signature) (t : TermTree) (ty : TypeTree) → IsPartOf sig more → typed sig [] t ≡ Ok ty → typed more [] t ≡ Ok ty
-typed-kept sig more t ty p e = sym (typed-more sig more p t (ap result_err e)) ∙ e
+typed-kept sig more t ty p e = has-typed more [] t ty (has-more sig more p [] t ty (typed-has sig [] t ty e))
 
 pub typedefs-more : (sig more : Signature) (ts : List Typedef) → Grows sig more → AreTypedefsInOrder sig ts → AreTypedefsInOrder more ts
 typedefs-more sig more [] g h = tt

@@ -30,8 +30,8 @@ use Rattle.lt_transport_definitions.specs.Commands.{Command, item_command, law_c
 use Rattle.lt_transport_definitions.specs.AlphaItems.{IsAlphaEqualItem, IsItemOf, AreItemsOf}
 use Rattle.lt_transport_definitions.specs.Parts.{tests_before}
 use Rattle.lt_transport_definitions.specs.QuotientBlocks.{QuotientTheorem, four_between, as_quotient, is_in_order, quotient_test, entry_of_theorem}
-use Rattle.lt_transport_definitions.specs.QuotientRows.{raw_of, typedef_entry, is_relation_on_one, class_entry, nonempty_lemma, class_typedef}
-use Rattle.lt_transport_definitions.specs.Rows.{with_its_type}
+use Rattle.lt_transport_definitions.specs.QuotientRows.{raw_of, typedef_entry, adds_typedef_quotient, is_relation_on_one, class_entry, adds_class_quotient}
+use Rattle.lt_transport_definitions.specs.Rows.{Row, adds, with_its_type}
 use Rattle.lt_transport_definitions.specs.Blocks.{row_of, ComesOfRow, Gives}
 use Rattle.lt_transport_laws.specs.QuotientStatements.{IsInOrder, AreInOrder}
 use Rattle.lt_transport_laws.specs.OrderStatements.{AreAlphaEqualContexts, IsOfTheory, IsTypedefInOrder, AreTypedefsInOrder, IsOrderedSession, NewSessionsAreOrdered, SessionsStayOrdered, SessionsHaveQuotients}
@@ -252,11 +252,11 @@ sides-named : (c d : Chars) (from to truth : TypeTree) (p : TypeTree × TypeTree
     → type_constructor c (type_and from (type_and (type_constructor d (type_and to (type_and truth no_types))) no_types)) ≡ fun p.0 (fun p.1 bool)
 sides-named c d from to truth p e = elim (bool_cases (same_name c (codes "fun") && same_name d (codes "fun") && same_type truth bool)) [
   | inl t ↦
-      let h = and_parts (same_name c (codes "fun")) (same_name d (codes "fun") && same_type truth bool) t in
-      let k = and_parts (same_name d (codes "fun")) (same_type truth bool) h.1 in
-      let x : c ≡ codes "fun" = name-true c (codes "fun") h.0 in
-      let y : d ≡ codes "fun" = name-true d (codes "fun") k.0 in
-      let z : truth ≡ bool = type-true truth bool k.1 in
+      let h = and_parts (same_name c (codes "fun") && same_name d (codes "fun")) (same_type truth bool) t in
+      let k = and_parts (same_name c (codes "fun")) (same_name d (codes "fun")) h.0 in
+      let x : c ≡ codes "fun" = name-true c (codes "fun") k.0 in
+      let y : d ≡ codes "fun" = name-true d (codes "fun") k.1 in
+      let z : truth ≡ bool = type-true truth bool h.1 in
       let w : Some (from, to) ≡ Some p =
       sym (if-true (same_name c (codes "fun") && same_name d (codes "fun") && same_type truth bool) (Some (from, to)) None t) ∙ e in
       let q : (from, to) ≡ p = cc in
@@ -272,7 +272,10 @@ sides-are (type_variable a) p e = absurd (cc)
 sides-are (type_constructor c no_types) p e = absurd (cc)
 sides-are (type_constructor c (type_and from no_types)) p e = absurd (cc)
 sides-are (type_constructor c (type_and from (type_and (type_variable a) ts))) p e = absurd (cc)
-sides-are (type_constructor c (type_and from (type_and (type_constructor d us) (type_and t ts)))) p e = absurd (cc)
+sides-are (type_constructor c (type_and from (type_and (type_constructor d no_types) (type_and t ts)))) p e = absurd (cc)
+sides-are (type_constructor c (type_and from (type_and (type_constructor d (type_and to no_types)) (type_and t ts)))) p e = absurd (cc)
+sides-are (type_constructor c (type_and from (type_and (type_constructor d (type_and to (type_and truth no_types))) (type_and t ts)))) p e = absurd (cc)
+sides-are (type_constructor c (type_and from (type_and (type_constructor d (type_and to (type_and truth (type_and w ws)))) (type_and t ts)))) p e = absurd (cc)
 sides-are (type_constructor c (type_and from (type_and (type_constructor d no_types) no_types))) p e = absurd (cc)
 sides-are (type_constructor c (type_and from (type_and (type_constructor d (type_and to no_types)) no_types))) p e = absurd (cc)
 sides-are (type_constructor c (type_and from (type_and (type_constructor d (type_and to (type_and truth (type_and t ts)))) no_types))) p e = absurd (cc)
@@ -306,19 +309,32 @@ raw-sound s d e w r h =
     ap (type_fault s.context.signature) raw ∙ (ap (λ (sig : Signature). type_fault sig k.0) e.0 ∙ f)
 
 -- the new type of a quotient type comes behind its raw type
-class-order : (s : Session) (n : Chars) (p : TermTree) (q : Chars) (params : List Chars) (CP : TermTree) (l a r : Chars) (rest : List Addition) (items : List Item)
+class-order-at : (s : Session) (n : Chars) (p : TermTree) (q : Chars) (params : List Chars) (CP : TermTree) (l a r : Chars) (rest : List Addition) (items : List Item)
     → AreItemsOf (a_lemma n p ∷ this_item (typedef_item q params CP l a r) ∷ rest) items → AreValid s.context items
     → (raw : TypeTree) → type_fault s.context.signature raw ≡ None
     → is_in_order (fold with_addition s (a_lemma n p ∷ this_item (typedef_item q params CP l a r) ∷ rest)).context.signature raw (new_type q params) ≡ true
-class-order s n p q params CP l a r rest [] h v raw f = absurd h
-class-order s n p q params CP l a r rest (i ∷ []) h v raw f = absurd h.1
-class-order s n p q params CP l a r rest (i ∷ j ∷ items) h v raw f =
+class-order-at s n p q params CP l a r rest [] h v raw f = absurd h
+class-order-at s n p q params CP l a r rest (i ∷ []) h v raw f = absurd h.1
+class-order-at s n p q params CP l a r rest (i ∷ j ∷ items) h v raw f =
     let one : Session = with_addition s (a_lemma n p) in
     let two : Session = with_addition one (this_item (typedef_item q params CP l a r)) in
     let e = one-adds s.context s.context (refl, same-statements s.context.statements) (a_lemma n p) i h.0 in
     let t = typedef-facts one.context (with_item s.context i) e q params CP l a r j h.1.0 v.1.0 in
     order-more two.context.signature (fold with_addition two rest).context.signature raw (new_type q params) (grows-additions two rest)
     (new-in-order s.context.signature two.context.signature q params (length params) t.2 raw f t.3)
+
+class-order : (s : Session) (additions : List Addition) (n : Chars) (p : TermTree) (q : Chars) (params : List Chars) (CP : TermTree) (l a r : Chars) (rest : List Addition)
+    → additions ≡ a_lemma n p ∷ this_item (typedef_item q params CP l a r) ∷ rest → (items : List Item) → AreItemsOf additions items → AreValid s.context items
+    → (raw : TypeTree) → type_fault s.context.signature raw ≡ None
+    → is_in_order (fold with_addition s additions).context.signature raw (new_type q params) ≡ true
+class-order s additions n p q params CP l a r rest e items h v raw f =
+    subst (λ (xs : List Addition). is_in_order (fold with_addition s xs).context.signature raw (new_type q params) ≡ true) (sym e)
+    (class-order-at s n p q params CP l a r rest items (subst (λ (xs : List Addition). AreItemsOf xs items) e h) v raw f)
+
+-- the additions with which a row ends
+abbrev additions_of : Row → List Addition
+additions_of (adds items registered) = items
+additions_of _ = []
 
 found-typedef : (sig : Signature) (ts : List Typedef) (q : Chars) (t : Typedef) → AreTypedefsInOrder sig ts → typedef_of ts q ≡ Some t
     → IsTypedefInOrder sig t × (q ≡ t.name)
@@ -376,16 +392,30 @@ in-rows s h (lifting_command l) = λ t e n quot f m x g o p q u v items a w. (
 )
 in-rows s h (lifting_typedef_command q) = λ n t e m items a w.
     let o = found-typedef s.context.signature s.typedefs q t h.typedefs e in
-    (tt, (tt, (entry-more s.context.signature _ _ (grows-additions s _) (typedef-entry-ordered s.context.signature q t o.0 o.1), (tt, (tt, (tt, (tt, tt)))))))
+    let P : WithType = with_its_type s.context.signature t.predicate in
+    let entry : QuotientEntry = typedef_entry q t P in
+    let additions : List Addition = additions_of (adds_typedef_quotient entry P) in (
+      tt,
+      (
+        tt,
+        (
+          entry-more s.context.signature (fold with_addition s additions).context.signature entry (grows-additions s additions)
+              (typedef-entry-ordered s.context.signature q t o.0 o.1),
+          (tt, (tt, (tt, (tt, tt)))),
+        ),
+      ),
+    )
 in-rows s h (quotient_type_command q params r l) = λ t e n m o p u v w items a x.
+    let R : WithType = with_its_type s.context.signature r in
+    let additions : List Addition = additions_of (adds_class_quotient params (class_entry q params R)) in
     let sound = raw-sound s (context_of empty h.theory.0) h.theory.2 (theory-context s h.theory) r
     (test-holds (is_relation_on_one (type_of s.context.signature r)) _ o) in (
       tt,
       (
         record {
           named = refl;
-          sound = type-more s.context.signature _ (grows-additions s _).part (raw_of (with_its_type s.context.signature r)) sound;
-          order = class-order s _ _ q params _ _ _ _ _ items a x (raw_of (with_its_type s.context.signature r)) sound;
+          sound = type-more s.context.signature (fold with_addition s additions).context.signature (grows-additions s additions).part (raw_of R) sound;
+          order = class-order s additions _ _ q params _ _ _ _ _ refl items a x (raw_of R) sound;
         },
         (tt, (tt, (tt, (tt, tt)))),
       ),
@@ -427,7 +457,7 @@ stay-ordered s c items later h g =
     }
 
 pub new-ordered : NewSessionsAreOrdered
-new-ordered limit = record { theory = ([], tt, refl, tt); typedefs = tt; quotients = tt }
+new-ordered limit = record { theory = ([], tt, (refl, tt)); typedefs = tt; quotients = tt }
 
 pub have-quotients : SessionsHaveQuotients
 have-quotients s abs raw h e f = quotients-exist s.registry s.quotients s.context.signature abs raw h.quotients e f
