@@ -189,21 +189,21 @@ quotients-kept s (a ∷ additions) = quotients-kept (with_addition s a) addition
 
 -- what the tests of a quotient's theorem tell
 
-test-holds : (b : Bool) (part : QuotientPart) → quotient_test b part ≡ None → b ≡ true
+pub test-holds : (b : Bool) (part : QuotientPart) → quotient_test b part ≡ None → b ≡ true
 test-holds true part e = refl
 test-holds false part e = absurd (cc)
 
 quotient-named : (sig : Signature) (c : Chars) (raw abs : TypeTree) (R A B T : TermTree) (q : QuotientTheorem)
     → as_quotient sig (application (application (application (application (constant c (raw ∷ abs ∷ [])) R) A) B) T) ≡ Some q
-    → (c' : Chars) × (R' : TermTree) × (A' : TermTree) × (B' : TermTree) × (T' : TermTree)
+    → (c' : Chars) × (A' : TermTree) × (B' : TermTree) × (T' : TermTree)
     × (application (application (application (application (constant c (raw ∷ abs ∷ [])) R) A) B) T
-    ≡ application (application (application (application (constant c' (q.raw ∷ q.abs ∷ [])) R') A') B') T')
+    ≡ application (application (application (application (constant c' (q.raw ∷ q.abs ∷ [])) q.four.rel.term) A') B') T')
 quotient-named sig c raw abs R A B T q e = elim (bool_cases (same_name c (codes "Quotient") && is_counted sig c)) [
   | inl t ↦
       let x : Some (record { raw = raw; abs = abs; four = four_between raw abs R A B T }) ≡ Some q =
       sym (if-true (same_name c (codes "Quotient") && is_counted sig c) (Some (record { raw = raw; abs = abs; four = four_between raw abs R A B T })) None t) ∙ e in
       let y : record { raw = raw; abs = abs; four = four_between raw abs R A B T } ≡ q = cc in
-      (c, R, A, B, T, (λ i. application (application (application (application (constant c ((y i).raw ∷ (y i).abs ∷ [])) R) A) B) T))
+      (c, A, B, T, (λ i. application (application (application (application (constant c ((y i).raw ∷ (y i).abs ∷ [])) (y i).four.rel.term) A) B) T))
   | inr t ↦ absurd (none-some q (sym (if-false (same_name c (codes "Quotient") && is_counted sig c)
       (Some (record { raw = raw; abs = abs; four = four_between raw abs R A B T })) None t) ∙ e))
 ]
@@ -211,9 +211,9 @@ quotient-named sig c raw abs R A B T q e = elim (bool_cases (same_name c (codes 
     none-some : (q : QuotientTheorem) → ◌≡◌ {A = Option QuotientTheorem} None (Some q) → ⊥
     none-some q e = cc
 
-quotient-is : (sig : Signature) (t : TermTree) (q : QuotientTheorem) → as_quotient sig t ≡ Some q
-    → (c : Chars) × (R : TermTree) × (A : TermTree) × (B : TermTree) × (T : TermTree)
-    × (t ≡ application (application (application (application (constant c (q.raw ∷ q.abs ∷ [])) R) A) B) T)
+pub quotient-is : (sig : Signature) (t : TermTree) (q : QuotientTheorem) → as_quotient sig t ≡ Some q
+    → (c : Chars) × (A : TermTree) × (B : TermTree) × (T : TermTree)
+    × (t ≡ application (application (application (application (constant c (q.raw ∷ q.abs ∷ [])) q.four.rel.term) A) B) T)
 quotient-is sig (free_variable x ty) q e = absurd (cc)
 quotient-is sig (bound_name x) q e = absurd (cc)
 quotient-is sig (constant c ts) q e = absurd (cc)
@@ -242,8 +242,8 @@ quotient-is sig (application (application (application (application (constant c 
 theorem-sound : (sig : Signature) (t : TermTree) (q : QuotientTheorem) → HasType sig [] t bool → as_quotient sig t ≡ Some q → type_fault sig q.raw ≡ None
 theorem-sound sig t q h e =
     let k = quotient-is sig t q e in
-    let w : HasType sig [] (application (application (application (application (constant k.0 (q.raw ∷ q.abs ∷ [])) k.1) k.2) k.3) k.4) bool =
-    subst (λ (u : TermTree). HasType sig [] u bool) k.5 h in
+    let w : HasType sig [] (application (application (application (application (constant k.0 (q.raw ∷ q.abs ∷ [])) q.four.rel.term) k.1) k.2) k.3) bool =
+    subst (λ (u : TermTree). HasType sig [] u bool) k.4 h in
     (both-none (type_fault sig q.raw) (types_fault sig (row (q.abs ∷ []))) w.1.1.1.1.3).0
 
 -- a relation on one type
@@ -282,7 +282,7 @@ sides-are (type_constructor c (type_and from (type_and (type_constructor d (type
 sides-are (type_constructor c (type_and from (type_and (type_constructor d (type_and to (type_and truth no_types))) no_types))) p e =
     sides-named c d from to truth p e
 
-relation-is : (ty : TypeTree) (o : Option (TypeTree × TypeTree)) → relation_sides ty ≡ o
+pub relation-is : (ty : TypeTree) (o : Option (TypeTree × TypeTree)) → relation_sides ty ≡ o
     → unwrap_or (option_map (λ sides. same_type sides.0 sides.1) o) false ≡ true → (s : TypeTree) × (ty ≡ fun s (fun s bool))
 relation-is ty None x h = absurd (true-false (sym h))
 relation-is ty (Some p) x h =
@@ -290,7 +290,7 @@ relation-is ty (Some p) x h =
     (p.0, sides-are ty p x ∙ (λ i. fun p.0 (fun (sym e i) bool)))
 
 -- a term whose type is such a relation is typed
-related-typed : (ty : Result TypeTree Fault) (s : TypeTree) → result_unwrap_or ty bool ≡ fun s (fun s bool) → ty ≡ Ok (fun s (fun s bool))
+pub related-typed : (ty : Result TypeTree Fault) (s : TypeTree) → result_unwrap_or ty bool ≡ fun s (fun s bool) → ty ≡ Ok (fun s (fun s bool))
 related-typed (Ok ty) s h = let k : ty ≡ fun s (fun s bool) = h in ap Ok k
 related-typed (Err f) s h = absurd (bool-not s h)
   where
@@ -336,7 +336,7 @@ abbrev additions_of : Row → List Addition
 additions_of (adds items registered) = items
 additions_of _ = []
 
-found-typedef : (sig : Signature) (ts : List Typedef) (q : Chars) (t : Typedef) → AreTypedefsInOrder sig ts → typedef_of ts q ≡ Some t
+pub found-typedef : (sig : Signature) (ts : List Typedef) (q : Chars) (t : Typedef) → AreTypedefsInOrder sig ts → typedef_of ts q ≡ Some t
     → IsTypedefInOrder sig t × (q ≡ t.name)
 found-typedef sig [] q t h e = absurd (cc)
 found-typedef sig (u ∷ ts) q t h e = elim (bool_cases (same_name q u.name)) [

@@ -40,7 +40,7 @@ body-loose z i (bound_name x) = refl
 body-loose z i (constant c ts) = refl
 body-loose z i (abstraction x ty b) = refl
 
-body-none : (t : TermTree) → HasNoLooseNames t → HasNoLooseNames (body_of t)
+pub body-none : (t : TermTree) → HasNoLooseNames t → HasNoLooseNames (body_of t)
 body-none t h z = body-loose z 1 t ∙ h z
 
 with_side-none : (o : Option (Property × ℕ)) (whole : TermTree) (behind : Conditioned) → HasNoLooseNames whole → HasNoLooseNames behind.rest
