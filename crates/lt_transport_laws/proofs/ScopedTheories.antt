@@ -4,7 +4,7 @@ use Rattle.std.proofs.Common.{refl, sym, ap, ◌∙◌, subst}
 use Rattle.lt_definitions.specs.Types.{Chars, same_name, TypeTree, bool, fun}
 use Rattle.lt_definitions.specs.Terms.{TermTree, has_loose, HasNoLooseNames}
 use Rattle.lt_definitions.specs.Typing.{typed}
-use Rattle.lt_definitions.specs.Items.{Item, type_item, const_item, axiom_item, def_item, typedef_item, lemma_item, Context, empty, new_type, raw_type, with_typedef, rep_statement, rep_inverse_statement, abs_inverse_statement, typedef_statements, with_item, context_of}
+use Rattle.lt_definitions.specs.Items.{Item, type_item, const_item, axiom_item, def_item, typedef_item, lemma_item, Context, empty, definition_label, definition_statement, new_type, raw_type, with_typedef, rep_statement, rep_inverse_statement, abs_inverse_statement, typedef_statements, with_item, context_of}
 use Rattle.lt_definitions.specs.Theory.{refusal, AreValid}
 use Rattle.lt_definitions.specs.Extensions.{IsDefinition, IsTypedef}
 use Rattle.lt_nameless.specs.AlphaEqualLines.{AreAlphaEqualStatements}
@@ -60,7 +60,7 @@ item-scoped ctx (lemma_item l t lines) v h =
     scoped-on ctx.statements ((l, t) ∷ []) h (typed_terms_have_no_loose_names ctx.signature t bool x.0.0, tt)
 item-scoped ctx (def_item n ty body) v h =
     let x : IsDefinition ctx n ty body = (accepted_is_valid ctx (def_item n ty body)).0 v in
-    scoped-on ctx.statements _ h ((λ z. typed_terms_have_no_loose_names ctx.signature body ty x.typed z), tt)
+    scoped-on ctx.statements ((definition_label n, definition_statement n ty body) ∷ []) h ((λ z. typed_terms_have_no_loose_names ctx.signature body ty x.typed z), tt)
 item-scoped ctx (typedef_item n params p l a b) v h =
     let x : IsTypedef ctx n params p l a b = (accepted_is_valid ctx (typedef_item n params p l a b)).0 v in
     typedef-scoped ctx n params p a b (raw_type (typed ctx.signature [] p))
