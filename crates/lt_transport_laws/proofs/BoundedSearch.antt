@@ -374,11 +374,11 @@ visits-listed prefix v = listed-from prefix v.choices v
 
 -- they are different
 
-second : List ℕ → ℕ
+abbrev second : List ℕ → ℕ
 second (i ∷ j ∷ rest) = j
 second _ = 9
 
-third : List ℕ → ℕ
+abbrev third : List ℕ → ℕ
 third (i ∷ j ∷ k ∷ rest) = k
 third _ = 9
 
