@@ -1,15 +1,15 @@
 -- Items that are valid over what items declare and state are valid over alpha-equal statements too.
-use Rattle.std.specs.Prelude.{◌≡◌, ◌≢◌, ◌⊎◌, List, [], ◌∷◌, ◌++◌, Option, Some, None, Result, Ok, Err, length, map, codes}
+use Rattle.std.specs.Prelude.{◌≡◌, List, [], ◌∷◌, ◌++◌, Option, Some, None, Ok, Err, codes}
 use Rattle.std.proofs.Common.{refl, sym, ap, ◌∙◌, subst, inl, inr}
 use Rattle.lt_definitions.specs.Types.{Chars, same_name, found, TypeTree, fun}
 use Rattle.lt_definitions.specs.Terms.{TermTree, free_variable, bound_name, constant, application, abstraction, equation}
-use Rattle.lt_definitions.specs.Typing.{Signature, Fault, typed}
+use Rattle.lt_definitions.specs.Typing.{Signature, typed}
 use Rattle.lt_definitions.specs.Alpha.{ArePaired, AreAlpha, IsAlphaEqual}
 use Rattle.lt_definitions.specs.Rules.{Sequent, Rule, terms_of, AreAlphaEqual, Outcome, IsAlphaEqualOutcome, step}
-use Rattle.lt_definitions.specs.Derivations.{Derives, rule_fault, term_fault}
+use Rattle.lt_definitions.specs.Derivations.{Derives}
 use Rattle.lt_definitions.specs.Items.{Item, type_item, const_item, axiom_item, def_item, typedef_item, lemma_item, Context, declared, definition_label, definition_statement, new_type, rep_statement, rep_inverse_statement, abs_inverse_statement, typedef_statements, raw_type, with_statements, with_typedef, with_item}
 use Rattle.lt_definitions.specs.Theory.{refusal, AreValid}
-use Rattle.lt_definitions.specs.Extensions.{IsNew, Proves, IsInhabited, IsTypedef, IsDefinition, IsExtension}
+use Rattle.lt_definitions.specs.Extensions.{Proves, IsInhabited, IsExtension}
 use Rattle.lt_definitions.proofs.SameNames.{bool_cases}
 use Rattle.lt_nameless.specs.AlphaEqualLines.{AreAlphaEqualSequents, AreAlphaEqualStatements, AreAlphaEqualLines}
 use Rattle.lt_nameless.proofs.BindingLemmas.{if-true, if-false}

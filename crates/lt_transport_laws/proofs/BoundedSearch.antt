@@ -1,16 +1,15 @@
 -- The search for the image of a bounded quantifier, with its six visits.
-use Rattle.std.specs.Prelude.{◌≡◌, ◌⊎◌, ℕ, zero, suc, ◌<◌, List, [], ◌∷◌, ◌++◌, Bool, true, false, Option, Some, None, length, slice_get, IsSome, Contains, codes}
+use Rattle.std.specs.Prelude.{◌≡◌, ◌⊎◌, ℕ, zero, suc, List, [], ◌∷◌, ◌++◌, Option, Some, None, length, slice_get, IsSome, Contains, codes}
 use Rattle.std.specs.Fmt.{digits}
 use Rattle.std.proofs.Common.{refl, subst, sym, ap, ◌∙◌, inl, inr, arith}
-use Rattle.lt_definitions.specs.Types.{Chars, TypeTree, bool}
-use Rattle.lt_definitions.specs.Terms.{TermTree}
-use Rattle.lt_transport_definitions.specs.Relations.{Relation, equality, relation_row, bi_total, built_in_registry}
+use Rattle.lt_definitions.specs.Types.{bool}
+use Rattle.lt_transport_definitions.specs.Relations.{Relation, equality, bi_total, built_in_registry}
 use Rattle.lt_transport_definitions.specs.Expressions.{function_relator, implication}
 use Rattle.lt_transport_definitions.specs.Below.{Side}
 use Rattle.lt_transport_definitions.specs.RuleForm.{TransferRule}
 use Rattle.lt_transport_definitions.specs.Candidates.{occurrences, IsChoice}
-use Rattle.lt_transport_definitions.specs.Correspondence.{ChosenStatement, chosen_name, chosen_application, chosen_abstraction, chosen_rule, not_chosen, Assignment, statement_of, numbers_of, AreCandidates, IsAssignment, Corresponds}
-use Rattle.lt_transport_definitions.specs.Search.{Question, Solution, IsWhole, IsLeast, IsBefore, IsAnswer, IsLive, AreFilled, TopHolds, AreChoices, IsVisit, AreDifferent, equal}
+use Rattle.lt_transport_definitions.specs.Correspondence.{ChosenStatement, chosen_name, chosen_application, chosen_abstraction, chosen_rule, not_chosen, Assignment, numbers_of, AreCandidates, IsAssignment, Corresponds}
+use Rattle.lt_transport_definitions.specs.Search.{Solution, IsWhole, IsLeast, IsBefore, IsAnswer, IsLive, AreFilled, TopHolds, AreChoices, IsVisit, AreDifferent, equal}
 use Rattle.lt_transport_laws.specs.Statements.{IsRegistry}
 use Rattle.lt_transport_laws.specs.SearchSamples.{rule_all}
 use Rattle.lt_transport_laws.specs.BoundedSamples.{t, relation_t, registry_t, rule_k, rule_implies, rule_bounded, question_bounded}

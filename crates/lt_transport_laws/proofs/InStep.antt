@@ -1,10 +1,10 @@
 -- A session in step gives one in step.
-use Rattle.std.specs.Prelude.{◌≡◌, ◌⊎◌, List, [], ◌∷◌, ◌++◌, Bool, true, ◌&&◌, Option, Some, None, Result, Ok, Err, map, fold, option_map, option_to_list, is_some}
+use Rattle.std.specs.Prelude.{◌≡◌, ◌⊎◌, List, [], ◌∷◌, ◌++◌, ◌&&◌, Option, Some, None, map, fold, option_map, option_to_list, is_some}
 use Rattle.std.specs.List.{flat_map}
 use Rattle.std.proofs.Common.{refl, subst, sym, ap, ◌∙◌, inl, inr}
 use Rattle.lt_definitions.specs.Types.{Chars, same_name, TypeTree}
 use Rattle.lt_definitions.specs.Terms.{TermTree}
-use Rattle.lt_definitions.specs.Items.{def_item, Context, definition_label}
+use Rattle.lt_definitions.specs.Items.{def_item, Context}
 use Rattle.lt_transport_definitions.specs.Notation.{WithType, ◌·◌}
 use Rattle.lt_transport_definitions.specs.Relations.{Relator, PropertyRule, DomainRule, same_property}
 use Rattle.lt_transport_definitions.specs.Answers.{value_of, first_wrong}

@@ -1,15 +1,14 @@
 -- The sessions to which commands lead, and the one end of a run.
-use Rattle.std.specs.Prelude.{◌≡◌, ℕ, List, [], ◌∷◌, Option, Some, None, Ok, fold, codes}
-use Rattle.std.proofs.Common.{refl, sym, ap, ◌∙◌, subst}
-use Rattle.lt_definitions.specs.Items.{Item}
+use Rattle.std.specs.Prelude.{◌≡◌, List, [], ◌∷◌, fold, codes}
+use Rattle.std.proofs.Common.{refl, sym, ◌∙◌, subst}
 use Rattle.lt_transport_definitions.specs.Answers.{first_wrong}
-use Rattle.lt_transport_definitions.specs.Sessions.{Session, new_session, signature_of}
-use Rattle.lt_transport_definitions.specs.Commands.{Command, CommandRefusal, Addition, with_addition, session_behind}
+use Rattle.lt_transport_definitions.specs.Sessions.{Session, new_session}
+use Rattle.lt_transport_definitions.specs.Commands.{Command, Addition, with_addition}
 use Rattle.lt_transport_definitions.specs.Parts.{tests_before}
-use Rattle.lt_transport_definitions.specs.Blocks.{row_of, ComesOfRow, Gives}
-use Rattle.lt_transport_definitions.specs.TheoryWalks.{Placed, Cut, header_wrong, has_commands, End, WalksCut, theory_commands}
+use Rattle.lt_transport_definitions.specs.Blocks.{row_of, ComesOfRow}
+use Rattle.lt_transport_definitions.specs.TheoryWalks.{Placed, header_wrong, has_commands}
 use Rattle.lt_transport_laws.specs.Statements.{IsRegistry}
-use Rattle.lt_transport_laws.specs.SessionStatements.{AreScopedDomains, IsScopedSession, AreScopedAlong, IsInStep}
+use Rattle.lt_transport_laws.specs.SessionStatements.{AreScopedDomains, AreScopedAlong, IsInStep}
 use Rattle.lt_transport_laws.specs.KeptStatements.{IsKeptSession, NewSessionsAreKept, SessionsAreKept, KeptSessionsAreScoped, KeptStatementsAreBoolean, RunsHaveOneEnd}
 use Rattle.lt_transport_laws.proofs.BuiltIn.{built-in}
 use Rattle.lt_transport_laws.proofs.InStep.{stay-in-step}

@@ -1,7 +1,7 @@
 -- Normal forms are expressions.
-use Rattle.std.proofs.Common.{◌≡◌, List, [], Option, Some, None, length, refl, subst, sym, ap, ◌∙◌}
+use Rattle.std.proofs.Common.{◌≡◌, List, [], Option, Some, None, refl, subst, sym, ap}
 use Rattle.lt_definitions.specs.Types.{Chars, TypeTree}
-use Rattle.lt_transport_definitions.specs.Relations.{Relation, relation_variable, equality, constructed, Relations, no_relations, relation_and, Correspondence, Parametrised, Registry, form_for, Kind, no_constructor, a_relator, a_correspondence, a_form, kind_of}
+use Rattle.lt_transport_definitions.specs.Relations.{Relation, relation_variable, equality, constructed, Relations, no_relations, relation_and, Parametrised, Registry, form_for, Kind, no_constructor, a_relator, a_correspondence, a_form, kind_of}
 use Rattle.lt_transport_definitions.specs.Expressions.{right, arguments_of, normal_equalities, normal_constructed, normal, normals, MayHave, IsExpression, AreExpressions}
 use Rattle.lt_transport_laws.specs.Statements.{IsRegistry}
 use Rattle.lt_transport_laws.specs.ExpressionStatements.{HasArguments, IsFormed, AreFormed, AreFormsNamed, EqualitiesAreExpressions, NormalFormsAreExpressions}

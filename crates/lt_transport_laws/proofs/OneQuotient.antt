@@ -1,6 +1,6 @@
 -- There is one quotient between two types.
 use Rattle.std.proofs.Common.{◌≡◌, List, refl, sym, ap, ◌∙◌, subst}
-use Rattle.lt_definitions.specs.Types.{Chars, TypeTree, type_variable, type_constructor, TypeTrees, no_types, type_and}
+use Rattle.lt_definitions.specs.Types.{TypeTree, TypeTrees, no_types, type_and}
 use Rattle.lt_transport_definitions.specs.Relations.{Registry}
 use Rattle.lt_transport_definitions.specs.Expressions.{arguments_of}
 use Rattle.lt_transport_definitions.specs.Sessions.{QuotientEntry}

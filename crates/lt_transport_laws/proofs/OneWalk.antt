@@ -1,13 +1,11 @@
 -- A command leads to one session, and a walk over commands has one end.
-use Rattle.std.specs.Prelude.{◌≡◌, ◌⊎◌, ℕ, List, [], ◌∷◌, Option, Some, None, Result, Ok, Err}
-use Rattle.std.proofs.Common.{refl, subst, sym, ap, ◌∙◌, inl, inr}
-use Rattle.lt_definitions.specs.Items.{Item}
+use Rattle.std.specs.Prelude.{◌≡◌, [], ◌∷◌, Some, None, Ok, Err}
+use Rattle.std.proofs.Common.{subst, sym, ap, ◌∙◌, inl, inr}
 use Rattle.lt_transport_definitions.specs.Sessions.{Session}
-use Rattle.lt_transport_definitions.specs.Commands.{Command, CommandRefusal, Block, session_behind}
+use Rattle.lt_transport_definitions.specs.Commands.{CommandRefusal, Block, session_behind}
 use Rattle.lt_transport_definitions.specs.Rows.{BlockOutcome}
-use Rattle.lt_transport_definitions.specs.Blocks.{Gives}
-use Rattle.lt_transport_definitions.specs.TheoryWalks.{Placed, Unread, End, refused_at, place_of, WalksOver, theory_commands, line_of_command}
-use Rattle.lt_transport_laws.specs.SessionStatements.{IsScopedSession, SessionsAreOne, AreScopedAlong, WalksAreOne}
+use Rattle.lt_transport_definitions.specs.TheoryWalks.{refused_at, place_of, WalksOver, theory_commands, line_of_command}
+use Rattle.lt_transport_laws.specs.SessionStatements.{SessionsAreOne, WalksAreOne}
 use Rattle.lt_transport_laws.proofs.OneTransport.{each-one}
 
 same-block : (x y : Block) → ◌≡◌ {A = BlockOutcome} (Ok x) (Ok y) → x ≡ y

@@ -1,25 +1,23 @@
 -- The order of declarations: what was declared before stays so, and what is declared comes before a new name.
-use Rattle.std.specs.Prelude.{◌≡◌, ◌⊎◌, ℕ, List, [], ◌∷◌, ◌++◌, Bool, true, false, ◌&&◌, ◌||◌, not, Option, Some, None, Result, Ok, Err, map, length}
+use Rattle.std.specs.Prelude.{◌≡◌, ℕ, List, [], ◌∷◌, ◌++◌, Bool, true, false, ◌||◌, not, Option, Some, None, Ok, map, length}
 use Rattle.std.specs.List.{list_all}
-use Rattle.std.specs.Result.{result_err}
 use Rattle.std.proofs.Common.{refl, sym, ap, ◌∙◌, subst, inl, inr}
-use Rattle.std.proofs.lemmas.Bool.{and_parts, and_from, or_cases, or_left, or_right}
+use Rattle.std.proofs.lemmas.Bool.{and_parts, and_from, or_cases}
 use Rattle.lt_definitions.specs.Types.{Chars, same_name, found, TypeTree, type_variable, type_constructor, TypeTrees, no_types, type_and, listed, bool, fun}
 use Rattle.lt_definitions.specs.Terms.{TermTree}
-use Rattle.lt_definitions.specs.Typing.{Signature, Fault, constructor_fault, type_fault, types_fault, typed}
+use Rattle.lt_definitions.specs.Typing.{Signature, constructor_fault, type_fault, types_fault, typed}
 use Rattle.lt_definitions.specs.Derivations.{IsPartOf}
-use Rattle.lt_definitions.specs.Items.{Item, Context, with_item, context_of, new_type, with_typedef}
+use Rattle.lt_definitions.specs.Items.{new_type}
 use Rattle.lt_definitions.proofs.SameNames.{true-false, bool_cases, name-true, true-name, name-false}
 use Rattle.lt_definitions.proofs.TypingLemmas.{both-none}
 use Rattle.lt_nameless.proofs.BindingLemmas.{if-true, if-false}
 use Rattle.lt_nameless.proofs.MoreDeclarations.{type-more, has-more}
 use Rattle.lt_nameless.proofs.Typings.{typed-has, has-typed}
-use Rattle.lt_nameless.proofs.LaterItems.{Keeps, keeps-items}
 use Rattle.lt_transport_definitions.specs.Forms.{constructor_name}
 use Rattle.lt_transport_definitions.specs.Sessions.{Typedef, QuotientEntry}
 use Rattle.lt_transport_definitions.specs.QuotientBlocks.{constructors_in, constructors_in_all, comes_before, is_in_order}
-use Rattle.lt_transport_laws.specs.QuotientStatements.{IsInOrder, AreInOrder}
-use Rattle.lt_transport_laws.specs.OrderStatements.{IsTypedefInOrder, AreTypedefsInOrder}
+use Rattle.lt_transport_laws.specs.QuotientStatements.{AreInOrder}
+use Rattle.lt_transport_laws.specs.OrderStatements.{AreTypedefsInOrder}
 
 -- the names of the declared types
 abbrev pub names_of : Signature → List Chars

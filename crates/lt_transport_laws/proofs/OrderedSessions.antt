@@ -1,15 +1,14 @@
 -- A session whose quotients are in order gives one whose quotients are.
-use Rattle.std.specs.Prelude.{◌≡◌, ◌⊎◌, ℕ, List, [], ◌∷◌, ◌++◌, Bool, true, false, ◌&&◌, not, if◌then◌else◌, Option, Some, None, Result, Ok, Err, fold, length, find, codes, unwrap_or, option_map, option_to_list, is_some}
+use Rattle.std.specs.Prelude.{◌≡◌, ℕ, List, [], ◌∷◌, ◌++◌, Bool, true, false, ◌&&◌, if◌then◌else◌, Option, Some, None, Result, Ok, Err, fold, length, codes, unwrap_or, option_map, option_to_list}
 use Rattle.std.specs.Result.{result_unwrap_or}
 use Rattle.std.proofs.Common.{refl, sym, ap, ◌∙◌, subst, inl, inr}
 use Rattle.std.proofs.lemmas.Bool.{and_parts}
-use Rattle.lt_definitions.specs.Types.{Chars, same_name, found, TypeTree, type_variable, type_constructor, TypeTrees, no_types, type_and, row, bool, fun, same_type}
+use Rattle.lt_definitions.specs.Types.{Chars, same_name, found, TypeTree, type_variable, type_constructor, no_types, type_and, row, bool, fun, same_type}
 use Rattle.lt_definitions.specs.Terms.{TermTree, free_variable, bound_name, constant, application, abstraction}
-use Rattle.lt_definitions.specs.Typing.{Signature, Fault, type_fault, types_fault, typed, HasType, built_in}
-use Rattle.lt_definitions.specs.Alpha.{IsAlphaEqual}
-use Rattle.lt_definitions.specs.Rules.{Rule, type_of}
+use Rattle.lt_definitions.specs.Typing.{Signature, Fault, type_fault, types_fault, typed, HasType}
+use Rattle.lt_definitions.specs.Rules.{type_of}
 use Rattle.lt_definitions.specs.Items.{Item, type_item, const_item, axiom_item, def_item, typedef_item, lemma_item, Context, empty, new_type, raw_type, with_typedef, with_item, context_of}
-use Rattle.lt_definitions.specs.Theory.{Refusal, refusal, AreValid}
+use Rattle.lt_definitions.specs.Theory.{refusal, AreValid}
 use Rattle.lt_definitions.specs.Extensions.{IsTypedef}
 use Rattle.lt_definitions.proofs.SameNames.{true-false, bool_cases, name-true, type-true}
 use Rattle.lt_definitions.proofs.TypingLemmas.{both-none}
@@ -23,18 +22,18 @@ use Rattle.lt_nameless.proofs.Typings.{typed-has, has-typed}
 use Rattle.lt_transport_definitions.specs.Notation.{WithType, domain_type}
 use Rattle.lt_transport_definitions.specs.Patterns.{relation_sides}
 use Rattle.lt_transport_definitions.specs.Constants.{is_counted}
-use Rattle.lt_transport_definitions.specs.Answers.{wrong_where, first_wrong}
+use Rattle.lt_transport_definitions.specs.Answers.{first_wrong}
 use Rattle.lt_transport_definitions.specs.RuleForm.{TransferRule}
-use Rattle.lt_transport_definitions.specs.Sessions.{Typedef, QuotientEntry, Session, new_session, signature_of, typedef_of}
+use Rattle.lt_transport_definitions.specs.Sessions.{Typedef, QuotientEntry, Session, typedef_of}
 use Rattle.lt_transport_definitions.specs.Commands.{Command, item_command, law_command, corr_command, relator_command, property_command, domain_command, rule_command, lifting_command, lifting_typedef_command, quotient_type_command, lift_command, parametric_command, param_rule_command, equiv_command, implies_command, carry_command, abs_eq_command, rep_eq_command, QuotientPart, Addition, this_item, a_lemma, Registration, law_registered, corr_registered, relator_registered, form_registered, property_registered, domain_registered, rule_registered, quotient_registered, lifted_registered, transport_registered, Block, item_of, with_typedef_of, with_addition, with_registration, session_behind}
 use Rattle.lt_transport_definitions.specs.AlphaItems.{IsAlphaEqualItem, IsItemOf, AreItemsOf}
 use Rattle.lt_transport_definitions.specs.Parts.{tests_before}
-use Rattle.lt_transport_definitions.specs.QuotientBlocks.{QuotientTheorem, four_between, as_quotient, is_in_order, quotient_test, entry_of_theorem}
+use Rattle.lt_transport_definitions.specs.QuotientBlocks.{QuotientTheorem, four_between, as_quotient, is_in_order, quotient_test}
 use Rattle.lt_transport_definitions.specs.QuotientRows.{raw_of, typedef_entry, adds_typedef_quotient, is_relation_on_one, class_entry, adds_class_quotient}
 use Rattle.lt_transport_definitions.specs.Rows.{Row, adds, with_its_type}
-use Rattle.lt_transport_definitions.specs.Blocks.{row_of, ComesOfRow, Gives}
+use Rattle.lt_transport_definitions.specs.Blocks.{row_of, ComesOfRow}
 use Rattle.lt_transport_laws.specs.QuotientStatements.{IsInOrder, AreInOrder}
-use Rattle.lt_transport_laws.specs.OrderStatements.{AreAlphaEqualContexts, IsOfTheory, IsTypedefInOrder, AreTypedefsInOrder, IsOrderedSession, NewSessionsAreOrdered, SessionsStayOrdered, SessionsHaveQuotients}
+use Rattle.lt_transport_laws.specs.OrderStatements.{AreAlphaEqualContexts, IsTypedefInOrder, AreTypedefsInOrder, IsOrderedSession, NewSessionsAreOrdered, SessionsStayOrdered, SessionsHaveQuotients}
 use Rattle.lt_transport_laws.proofs.AlphaItemLemmas.{same-statements, valid-alpha}
 use Rattle.lt_transport_laws.proofs.InStep.{context-kept}
 use Rattle.lt_transport_laws.proofs.OrderLemmas.{Grows, grows-same, grows-refl, grows-trans, nil-behind, order-more, entries-more, typed-kept, typedefs-more, new-in-order}

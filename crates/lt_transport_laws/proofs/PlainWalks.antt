@@ -1,16 +1,13 @@
 -- The items that a walk gives are a valid plain theory.
-use Rattle.std.specs.Prelude.{◌≡◌, ◌⊎◌, ℕ, List, [], ◌∷◌, ◌++◌, Option, Some, None, Ok, fold}
-use Rattle.std.specs.List.{flat_map}
-use Rattle.std.proofs.Common.{refl, sym, ap, ◌∙◌, subst, inl, inr}
-use Rattle.lt_definitions.specs.Terms.{TermTree}
-use Rattle.lt_definitions.specs.Rules.{Rule}
+use Rattle.std.specs.Prelude.{◌≡◌, List, [], ◌∷◌, ◌++◌, Some, None, fold}
+use Rattle.std.proofs.Common.{refl, sym, subst, inl, inr}
 use Rattle.lt_definitions.specs.Items.{Item, lemma_item, Context, with_item, context_of}
 use Rattle.lt_definitions.specs.Theory.{AreValid}
 use Rattle.lt_transport_definitions.specs.Sessions.{Session, new_session}
 use Rattle.lt_transport_definitions.specs.Commands.{Command, CommandRefusal, Addition, this_item, a_lemma, Block, item_of, with_addition, session_behind}
-use Rattle.lt_transport_definitions.specs.AlphaItems.{IsAlphaEqualItem, IsItemOf, AreItemsOf}
+use Rattle.lt_transport_definitions.specs.AlphaItems.{IsItemOf, AreItemsOf}
 use Rattle.lt_transport_definitions.specs.Blocks.{Gives}
-use Rattle.lt_transport_definitions.specs.TheoryWalks.{Placed, Unread, Cut, header_wrong, has_commands, End, WalksOver, WalksCut, theory_commands, items_of_blocks}
+use Rattle.lt_transport_definitions.specs.TheoryWalks.{Cut, header_wrong, has_commands, End, WalksCut, theory_commands, items_of_blocks}
 use Rattle.lt_transport_laws.specs.SessionStatements.{WalksArePlain, RunsArePlain}
 use Rattle.lt_transport_laws.specs.OrderStatements.{AreAlphaEqualContexts}
 use Rattle.lt_transport_laws.proofs.AlphaItemLemmas.{same-statements, adds-alpha, valid-alpha}

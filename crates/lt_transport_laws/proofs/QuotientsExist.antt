@@ -1,20 +1,19 @@
 -- There is a quotient between two types: by the order in which constructors are declared, and for each of them by the parts of a type.
-use Rattle.std.specs.Prelude.{◌≡◌, ◌⊎◌, ℕ, zero, suc, ◌<◌, List, [], ◌∷◌, ◌++◌, Bool, true, false, ◌&&◌, ◌||◌, not, if◌then◌else◌, Option, Some, None, map, length, find, option_map, is_some, unwrap_or, nat_eq}
+use Rattle.std.specs.Prelude.{◌≡◌, ℕ, zero, suc, ◌<◌, List, [], ◌∷◌, ◌++◌, Bool, true, false, ◌||◌, not, if◌then◌else◌, Option, Some, None, map, length, option_map, is_some, unwrap_or, nat_eq}
 use Rattle.std.specs.List.{list_all, zip}
 use Rattle.std.proofs.Common.{refl, sym, ap, ◌∙◌, subst, inl, inr, arith}
 use Rattle.std.proofs.lemmas.Bool.{and_parts, and_from, or_cases}
 use Rattle.std.proofs.lemmas.Bool.Decides.{nat_tests}
-use Rattle.lt_definitions.specs.Types.{Chars, same_name, found, TypeTree, type_variable, type_constructor, TypeTrees, no_types, type_and, listed, row, same_type, TypeMap, type_instance, types_instance, type_variables}
+use Rattle.lt_definitions.specs.Types.{Chars, same_name, found, TypeTree, type_variable, type_constructor, TypeTrees, no_types, type_and, listed, row, same_type, type_instance, types_instance, type_variables}
 use Rattle.lt_definitions.specs.Typing.{Signature, Fault, arity, constructor_fault, type_fault, types_fault, declared_arity, earlier}
-use Rattle.lt_definitions.proofs.SameNames.{true-false, bool_cases, name-true, true-name, type-true}
+use Rattle.lt_definitions.proofs.SameNames.{true-false, bool_cases, name-true}
 use Rattle.lt_nameless.proofs.BindingLemmas.{if-true, if-false}
-use Rattle.lt_nameless.proofs.StatementTypes.{instance-sound, instances-sound}
+use Rattle.lt_nameless.proofs.StatementTypes.{instance-sound}
 use Rattle.lt_transport_definitions.specs.Relations.{Registry, relator_for}
-use Rattle.lt_transport_definitions.specs.Expressions.{arguments_of}
 use Rattle.lt_transport_definitions.specs.Forms.{constructor_name}
 use Rattle.lt_transport_definitions.specs.Sessions.{QuotientEntry, quotient_of}
-use Rattle.lt_transport_definitions.specs.Quotients.{entry_map, raw_at, Quot, identity_quotient, relator_quotient, registered_quotient, composed_quotient, no_quotient_between, Quots, no_quots, quot_and, QuotCase, equal_types, one_relator, that_quotient, another_raw_type, nothing, have_one_relator, entry_of, case_by, case_of, IsQuotBetween, AreQuotsBetween}
-use Rattle.lt_transport_definitions.specs.QuotientBlocks.{constructors_in, constructors_in_all, comes_before, is_in_order}
+use Rattle.lt_transport_definitions.specs.Quotients.{raw_at, Quot, identity_quotient, relator_quotient, registered_quotient, composed_quotient, no_quotient_between, Quots, no_quots, quot_and, QuotCase, equal_types, one_relator, that_quotient, another_raw_type, have_one_relator, entry_of, case_by, case_of, IsQuotBetween, AreQuotsBetween}
+use Rattle.lt_transport_definitions.specs.QuotientBlocks.{constructors_in, constructors_in_all, comes_before}
 use Rattle.lt_transport_laws.specs.QuotientStatements.{IsInOrder, AreInOrder, QuotientsExist}
 
 -- how many names stand before the first place of a name

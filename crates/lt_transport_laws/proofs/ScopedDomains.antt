@@ -1,22 +1,21 @@
 -- The domains that commands register have their binders.
 use Rattle.std.specs.Prelude.{◌≡◌, List, [], ◌∷◌, ◌++◌, Bool, true, false, ◌||◌, ◌&&◌, not, if◌then◌else◌, Option, Some, None, codes, fold, option_map, option_and_then, option_to_list}
 use Rattle.std.specs.List.{list_all, list_any}
-use Rattle.std.specs.Result.{result_unwrap_or}
-use Rattle.std.proofs.Common.{refl, sym, ap, ◌∙◌, subst}
+use Rattle.std.proofs.Common.{refl, subst}
 use Rattle.lt_definitions.specs.Types.{Chars, same_name, has_name, TypeTree, bool, fun}
 use Rattle.lt_definitions.specs.Terms.{TermTree, free_variable, bound_name, constant, application, abstraction, term_names, has_loose, HasNoLooseNames}
-use Rattle.lt_definitions.specs.Typing.{Signature, typed, HasType}
+use Rattle.lt_definitions.specs.Typing.{Signature, typed}
 use Rattle.lt_definitions.specs.Rules.{as_equation, type_of}
 use Rattle.lt_nameless.proofs.TypeLaws.{typed_terms_have_no_loose_names}
 use Rattle.lt_nameless.proofs.Typings.{typed-has}
 use Rattle.lt_transport_definitions.specs.Notation.{WithType}
 use Rattle.lt_transport_definitions.specs.Patterns.{relation_sides}
-use Rattle.lt_transport_definitions.specs.Relations.{RelationVariable, DomainRule, Registry}
+use Rattle.lt_transport_definitions.specs.Relations.{DomainRule, Registry}
 use Rattle.lt_transport_definitions.specs.Reading.{body_of, prefix_of}
-use Rattle.lt_transport_definitions.specs.Forms.{Head, domain_head, domain_equation, domain_form}
+use Rattle.lt_transport_definitions.specs.Forms.{domain_head, domain_equation, domain_form}
 use Rattle.lt_transport_definitions.specs.RuleForm.{TransferRule}
-use Rattle.lt_transport_definitions.specs.Sessions.{Typedef, Session}
-use Rattle.lt_transport_definitions.specs.Commands.{Command, item_command, law_command, corr_command, relator_command, property_command, domain_command, rule_command, lifting_command, lifting_typedef_command, quotient_type_command, lift_command, parametric_command, param_rule_command, equiv_command, implies_command, carry_command, abs_eq_command, rep_eq_command, Registration, law_registered, corr_registered, relator_registered, form_registered, property_registered, domain_registered, rule_registered, quotient_registered, lifted_registered, transport_registered, Block, unless_there, with_registration, session_behind}
+use Rattle.lt_transport_definitions.specs.Sessions.{Session}
+use Rattle.lt_transport_definitions.specs.Commands.{Command, item_command, law_command, corr_command, relator_command, property_command, domain_command, rule_command, lifting_command, lifting_typedef_command, quotient_type_command, lift_command, parametric_command, param_rule_command, equiv_command, implies_command, carry_command, abs_eq_command, rep_eq_command, Registration, law_registered, corr_registered, relator_registered, form_registered, property_registered, domain_registered, rule_registered, quotient_registered, lifted_registered, transport_registered, Block, with_registration}
 use Rattle.lt_transport_definitions.specs.QuotientBlocks.{QuotientTheorem, as_quotient, self_related}
 use Rattle.lt_transport_definitions.specs.QuotientRows.{is_relation_on_one}
 use Rattle.lt_transport_definitions.specs.Blocks.{row_of}

@@ -1,6 +1,6 @@
 -- The statements of a valid theory have their binders.
 use Rattle.std.specs.Prelude.{◌≡◌, List, [], ◌∷◌, ◌++◌, Bool, true, false, ◌||◌, ◌&&◌, not, Option, Some, None, codes}
-use Rattle.std.proofs.Common.{refl, sym, ap, ◌∙◌, subst}
+use Rattle.std.proofs.Common.{refl, ◌∙◌}
 use Rattle.lt_definitions.specs.Types.{Chars, same_name, TypeTree, bool, fun}
 use Rattle.lt_definitions.specs.Terms.{TermTree, has_loose, HasNoLooseNames}
 use Rattle.lt_definitions.specs.Typing.{typed}

@@ -1,20 +1,17 @@
 -- What a command gives leaves a session one of a valid plain theory.
-use Rattle.std.specs.Prelude.{◌≡◌, List, [], ◌∷◌, ◌++◌, Option, Some, None, Ok}
-use Rattle.std.proofs.Common.{refl, sym, ap, ◌∙◌, subst}
+use Rattle.std.specs.Prelude.{◌≡◌, List, [], ◌∷◌, ◌++◌, Some}
+use Rattle.std.proofs.Common.{refl, sym, ◌∙◌, subst}
 use Rattle.lt_definitions.specs.Types.{Chars, found, bool}
 use Rattle.lt_definitions.specs.Terms.{TermTree}
-use Rattle.lt_definitions.specs.Typing.{Signature, typed, HasType}
-use Rattle.lt_definitions.specs.Alpha.{IsAlphaEqual}
+use Rattle.lt_definitions.specs.Typing.{Signature, HasType}
 use Rattle.lt_definitions.specs.Items.{Item, Context, empty, with_item, context_of}
-use Rattle.lt_definitions.specs.Theory.{AreValid, IsPlainTheory}
-use Rattle.lt_definitions.specs.Extensions.{IsStatement}
 use Rattle.lt_nameless.specs.Booleans.{IsSoundSignature}
 use Rattle.lt_nameless.specs.AlphaEqualLines.{AreAlphaEqualStatements}
-use Rattle.lt_nameless.proofs.AlphaLaws.{alpha_is_symmetric, alpha_is_transitive}
+use Rattle.lt_nameless.proofs.AlphaLaws.{alpha_is_transitive}
 use Rattle.lt_nameless.proofs.BooleanSteps.{typed-alpha, signatures_are_sound}
 use Rattle.lt_nameless.proofs.StatementTypes.{IsSound, sound-empty, sound-items, statements_are_boolean}
 use Rattle.lt_nameless.proofs.Typings.{typed-has, has-typed}
-use Rattle.lt_transport_definitions.specs.Sessions.{Session, new_session, signature_of}
+use Rattle.lt_transport_definitions.specs.Sessions.{Session, signature_of}
 use Rattle.lt_transport_definitions.specs.Commands.{Command, session_behind}
 use Rattle.lt_transport_definitions.specs.Blocks.{Gives}
 use Rattle.lt_transport_laws.specs.OrderStatements.{AreAlphaEqualContexts, IsOfTheory}

@@ -16,7 +16,7 @@ use Rattle.lt_transport_definitions.specs.LawTexts.{further_statements}
 use Rattle.lt_transport_definitions.specs.Sessions.{QuotientEntry, Session, signature_of}
 use Rattle.lt_transport_definitions.specs.Quotients.{Quot, identity_quotient, relator_quotient, registered_quotient, no_quots, quot_and}
 use Rattle.lt_transport_definitions.specs.QuotientTerms.{four_of}
-use Rattle.lt_transport_definitions.specs.Commands.{Block, Registration, rule_registered, with_registration, session_behind}
+use Rattle.lt_transport_definitions.specs.Commands.{rule_registered, with_registration, session_behind}
 use Rattle.lt_transport_definitions.specs.QuotientRows.{typedef_entry, adds_typedef_quotient}
 use Rattle.lt_transport_definitions.specs.LiftRows.{adds_lifted}
 use Rattle.lt_transport_definitions.specs.Samples.{session_over, typedef_items}

@@ -4,7 +4,7 @@ use Rattle.std.specs.Prelude.{ℕ, List, [], ◌∷◌, codes}
 use Rattle.lt_definitions.specs.Types.{TypeTree, bool}
 use Rattle.lt_definitions.specs.Terms.{TermTree, abstraction, for_all}
 use Rattle.lt_definitions.specs.Samples.{tyvar, type_of_args, con, con_at}
-use Rattle.lt_transport_definitions.specs.Relations.{Relation, relation_variable, equality, bi_total, built_in_registry}
+use Rattle.lt_transport_definitions.specs.Relations.{relation_variable, equality, bi_total, built_in_registry}
 use Rattle.lt_transport_definitions.specs.Expressions.{function_relator}
 use Rattle.lt_transport_definitions.specs.RuleForm.{TransferRule}
 use Rattle.lt_transport_definitions.specs.Search.{equal, Question}

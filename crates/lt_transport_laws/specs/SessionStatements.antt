@@ -1,5 +1,5 @@
 -- What the laws on sessions and walks say.
-use Rattle.std.specs.Prelude.{◌≡◌, ℕ, List, [], ◌∷◌, ◌++◌, Option, Some, Ok, IsSome, map, codes}
+use Rattle.std.specs.Prelude.{◌≡◌, ℕ, List, [], ◌∷◌, Option, Some, Ok, IsSome, map, codes}
 use Rattle.std.specs.List.{flat_map}
 use Rattle.lt_definitions.specs.Types.{Chars, found}
 use Rattle.lt_definitions.specs.Terms.{TermTree, HasNoLooseNames}
