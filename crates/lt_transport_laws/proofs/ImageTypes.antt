@@ -95,7 +95,7 @@ apart-list ns us m (t ∷ ts) h =
 
 -- the name of a left type variable
 
-left_name_at : List RelationVariable → ℕ → Chars
+abbrev left_name_at : List RelationVariable → ℕ → Chars
 left_name_at [] i = []
 left_name_at (x ∷ xs) zero = x.left_name
 left_name_at (x ∷ xs) (suc i) = left_name_at xs i

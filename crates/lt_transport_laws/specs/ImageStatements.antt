@@ -51,8 +51,15 @@ HasOnly vs (abstraction x ty b) = HasOnly vs b
 abbrev pub AreApart : List Chars → List Chars → Type 0
 AreApart names others = (a : Chars) → has_name a names ≡ true → has_name a others ≡ true → ⊥
 
--- The types in an expression have none of these type variables, and a parametrised correspondence
--- stands over a relation for each parameter.
+-- A parametrised correspondence stands over a relation for each parameter, and its raw type has no
+-- other type variable.
+abbrev pub IsFull : Kind → Relations → Type 0
+IsFull (a_form d) rs = (length (relation_list rs) ≡ length d.parameters)
+    × ((a : Chars) → has_name a (type_names d.raw) ≡ true → has_name a d.parameters ≡ true)
+IsFull _ rs = Unit {0}
+
+-- The types in an expression have none of these type variables, and each parametrised correspondence
+-- in it is full.
 abbrev mutual
   pub IsApart : Registry → List Chars → Relation → Type 0
   IsApart G ns (relation_variable i t) = Unit {0}
@@ -64,13 +71,8 @@ abbrev mutual
   EachApart G ns no_relations = Unit {0}
   EachApart G ns (relation_and r rs) = IsApart G ns r × EachApart G ns rs
 
-  pub IsFull : Kind → Relations → Type 0
-  IsFull (a_form d) rs = (length (relation_list rs) ≡ length d.parameters)
-      × ((a : Chars) → has_name a (type_names d.raw) ≡ true → has_name a d.parameters ≡ true)
-  IsFull _ rs = Unit {0}
-
--- A rule's raw side has the left type of its relation; its free variables are the relation variables;
--- and the left type variables are distinct, and in no other type of the rule.
+-- A rule's raw side has the left type of its relation, its free variables are the relation
+-- variables, and the left type variables are distinct, and in no other type of the rule.
 pub record IsSoundRule (G : Registry) (sig : Signature) (rule : TransferRule) : Type 0 where
   pub typed : IsTyped G sig rule
   pub raw : HasType sig [] rule.raw (left_over G rule.variables rule.relation)
@@ -88,12 +90,14 @@ AreSoundRules G sig (rule ∷ rules) = IsSoundRule G sig rule × AreSoundRules G
 abbrev pub relations_between : TypeTrees → TypeTrees → List TypeTree
 relations_between ls rs = map (λ p. p.0 ~ p.1) (zip (listed ls) (listed rs))
 
--- The constants of what is registered have their types, at any types without a fault.
+-- The constants of what is registered have their types, at any types without a fault; and so have
+-- the domains of expressions, where Domainp counts.
 pub record IsSoundRegistry (G : Registry) (sig : Signature) : Type 0 where
   pub signature : IsSoundSignature sig
   pub implied : left G implication ≡ bool
   pub relators : (K c : Chars) (ls rs : TypeTrees) → relator_for G K ≡ Some c
-      → type_fault sig (type_constructor K ls) ≡ None → type_fault sig (type_constructor K rs) ≡ None
+      → type_fault sig (type_constructor K ls) ≡ None
+      → type_fault sig (type_constructor K rs) ≡ None
       → HasType sig [] (constant c (interleaved (listed ls) (listed rs)))
       (functions_from (relations_between ls rs) (type_constructor K ls ~ type_constructor K rs))
   pub correspondences : (c : Chars) (d : Correspondence) (ts : List TypeTree)
