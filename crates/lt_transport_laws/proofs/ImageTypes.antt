@@ -1,14 +1,14 @@
 -- The image of a boolean statement is boolean.
-use Rattle.std.specs.Prelude.{◌≡◌, ◌⊎◌, ℕ, zero, suc, ◌+◌, ◌<◌, List, [], ◌∷◌, ◌++◌, Bool, true, false, ◌&&◌, ◌||◌, not, Option, Some, None, codes, map, length, filter, slice_get, unwrap_or}
+use Rattle.std.specs.Prelude.{◌≡◌, ℕ, zero, suc, ◌+◌, ◌<◌, List, [], ◌∷◌, ◌++◌, Bool, true, false, ◌||◌, not, Option, Some, None, codes, map, length, filter, slice_get, unwrap_or}
 use Rattle.std.specs.List.{zip}
 use Rattle.std.proofs.Common.{refl, sym, ap, ◌∙◌, subst, inl, inr, arith}
-use Rattle.std.proofs.lemmas.Bool.{and_parts, or_cases}
+use Rattle.std.proofs.lemmas.Bool.{and_parts}
 use Rattle.std.proofs.lemmas.List.{length-append}
 use Rattle.std.proofs.lemmas.Option.{slice_get_past}
 use Rattle.lt_definitions.specs.Types.{Chars, same_name, has_name, are_distinct, found, TypeTree, type_variable, type_constructor, TypeTrees, no_types, type_and, bool, fun, listed, row, TypeMap, type_instance, types_instance, type_names, types_names}
-use Rattle.lt_definitions.specs.Terms.{TermTree, bound_name, constant, application, abstraction}
-use Rattle.lt_definitions.specs.Typing.{Signature, type_fault, types_fault, declared_type, at_types, HasType}
-use Rattle.lt_definitions.proofs.SameNames.{true-false, bool_cases, name-true, true-name, name-false}
+use Rattle.lt_definitions.specs.Terms.{TermTree}
+use Rattle.lt_definitions.specs.Typing.{Signature, type_fault, types_fault, at_types, HasType}
+use Rattle.lt_definitions.proofs.SameNames.{true-false, bool_cases, name-true, true-name}
 use Rattle.lt_definitions.proofs.TypingLemmas.{both-none}
 use Rattle.lt_nameless.proofs.BindingLemmas.{if-true, if-false}
 use Rattle.lt_nameless.proofs.StatementTypes.{more-binders}
@@ -18,15 +18,15 @@ use Rattle.lt_transport_definitions.specs.Patterns.{type_match, types_match}
 use Rattle.lt_transport_definitions.specs.Constants.{is_counted}
 use Rattle.lt_transport_definitions.specs.Relations.{Relation, relation_variable, equality, constructed, Relations, no_relations, relation_and, relation_list, Parametrised, RelationVariable, Registry, relator_for, form_for, Kind, no_constructor, a_relator, a_correspondence, a_form, kind_of}
 use Rattle.lt_transport_definitions.specs.Expressions.{abstract_type, variables_of, left_of, left, lefts, right, equality_by, normal_equality, normal_equalities, MayHave, IsExpression, function_relator, implication}
-use Rattle.lt_transport_definitions.specs.RelationTerms.{Meaning, meaning_of, domain_of, relation_term, with_relations}
+use Rattle.lt_transport_definitions.specs.RelationTerms.{meaning_of, domain_of, relation_term}
 use Rattle.lt_transport_definitions.specs.RuleForm.{TransferRule}
-use Rattle.lt_transport_definitions.specs.Candidates.{occurrences, type_at, match_of, candidates, fits}
-use Rattle.lt_transport_definitions.specs.Correspondence.{ChosenStatement, chosen_name, chosen_rule, chosen_equality, not_chosen, chosen_application, chosen_abstraction, Assignment, statement_of, numbers_of, AreCandidates, relation_instance, relation_instances, AreValues, IsAssignment, Corresponds, left_types, raw_side, image_of}
-use Rattle.lt_transport_definitions.specs.Search.{Top, equal, implied, Question, Solution, IsWhole, AreFilled, TopHolds, top_candidates, image_by}
-use Rattle.lt_transport_laws.specs.Statements.{IsRegistry, VariableIs, IsOver, AreOver, IsTyped}
-use Rattle.lt_transport_laws.specs.ImageStatements.{left_variable, left_over, lefts_over, variable_types, HasOnly, AreApart, IsApart, EachApart, IsFull, IsSoundRule, AreSoundRules, IsSoundRegistry, ImagesAreTyped}
+use Rattle.lt_transport_definitions.specs.Candidates.{occurrences, type_at, match_of, fits}
+use Rattle.lt_transport_definitions.specs.Correspondence.{ChosenStatement, chosen_name, chosen_rule, chosen_equality, not_chosen, chosen_application, chosen_abstraction, Assignment, statement_of, numbers_of, AreCandidates, relation_instance, relation_instances, AreValues, IsAssignment, Corresponds, raw_side, image_of}
+use Rattle.lt_transport_definitions.specs.Search.{Top, equal, implied, Question, AreFilled, TopHolds, top_candidates, image_by}
+use Rattle.lt_transport_laws.specs.Statements.{IsRegistry, VariableIs, IsOver, AreOver}
+use Rattle.lt_transport_laws.specs.ImageStatements.{left_variable, left_over, lefts_over, variable_types, AreApart, IsApart, EachApart, IsFull, IsSoundRule, AreSoundRules, IsSoundRegistry, ImagesAreTyped}
 use Rattle.lt_transport_laws.proofs.Choices.{numbers-length}
-use Rattle.lt_transport_laws.proofs.RawSideTypes.{IsSoundMap, IsMeaningOf, AreMeaningsOf, sound-instance, with-typed}
+use Rattle.lt_transport_laws.proofs.RawSideTypes.{IsSoundMap, AreMeaningsOf, with-typed}
 use Rattle.lt_transport_laws.proofs.RelationTypes.{left-sound, relation-typed}
 use Rattle.lt_transport_laws.proofs.Twice.{twice}
 

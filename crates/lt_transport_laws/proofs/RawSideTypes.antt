@@ -1,13 +1,12 @@
 -- The raw side of a rule, with relations put for its variables, has its type.
-use Rattle.std.specs.Prelude.{◌≡◌, ◌⊎◌, ℕ, zero, suc, List, [], ◌∷◌, ◌++◌, Bool, true, false, ◌&&◌, if◌then◌else◌, Option, Some, None, codes, map, length, unwrap_or, option_map}
-use Rattle.std.specs.List.{zip}
+use Rattle.std.specs.Prelude.{◌≡◌, ◌⊎◌, suc, List, [], ◌∷◌, Bool, true, false, ◌&&◌, if◌then◌else◌, Option, Some, None, codes, map, length, unwrap_or, option_map}
 use Rattle.std.proofs.Common.{refl, sym, ap, ◌∙◌, subst, inl, inr, arith}
 use Rattle.std.proofs.lemmas.Bool.{and_parts}
 use Rattle.std.proofs.lemmas.List.{length-map}
 use Rattle.lt_definitions.specs.Types.{Chars, same_name, found, TypeTree, type_variable, type_constructor, TypeTrees, no_types, type_and, bool, fun, listed, row, TypeMap, type_instance, types_instance, type_names, type_variables}
 use Rattle.lt_definitions.specs.Terms.{TermTree, free_variable, bound_name, constant, application, abstraction}
-use Rattle.lt_definitions.specs.Typing.{Signature, constructor_fault, type_fault, types_fault, declared_type, at_types, HasType}
-use Rattle.lt_definitions.proofs.SameNames.{true-false, bool_cases, name-true}
+use Rattle.lt_definitions.specs.Typing.{Signature, constructor_fault, type_fault, types_fault, at_types, HasType}
+use Rattle.lt_definitions.proofs.SameNames.{bool_cases, name-true}
 use Rattle.lt_definitions.proofs.TypingLemmas.{both-none, none-both}
 use Rattle.lt_nameless.specs.Booleans.{IsSoundSignature}
 use Rattle.lt_nameless.proofs.BindingLemmas.{if-true, if-false}

@@ -1,17 +1,17 @@
 -- The terms of expressions have their types.
-use Rattle.std.specs.Prelude.{◌≡◌, ◌⊎◌, ℕ, List, [], ◌∷◌, ◌++◌, Bool, true, Option, Some, None, codes, map, length, unwrap_or}
-use Rattle.std.specs.List.{zip, flat_map}
-use Rattle.std.proofs.Common.{refl, sym, ap, ◌∙◌, subst, inl, inr, arith}
-use Rattle.lt_definitions.specs.Types.{Chars, found, TypeTree, type_variable, type_constructor, TypeTrees, no_types, type_and, bool, fun, listed, row, type_instance}
-use Rattle.lt_definitions.specs.Terms.{TermTree, constant, application}
+use Rattle.std.specs.Prelude.{◌≡◌, List, [], ◌∷◌, ◌++◌, Some, None, codes, map, length, unwrap_or}
+use Rattle.std.specs.List.{zip}
+use Rattle.std.proofs.Common.{refl, sym, ap, ◌∙◌, subst, arith}
+use Rattle.lt_definitions.specs.Types.{Chars, found, TypeTree, type_variable, type_constructor, TypeTrees, no_types, type_and, bool, fun, listed, row}
+use Rattle.lt_definitions.specs.Terms.{TermTree, constant}
 use Rattle.lt_definitions.specs.Typing.{Signature, constructor_fault, type_fault, types_fault, declared_arity, HasType}
 use Rattle.lt_definitions.proofs.TypingLemmas.{both-none, none-both}
 use Rattle.lt_nameless.proofs.StatementTypes.{sound-fun, typed-sound}
-use Rattle.lt_transport_definitions.specs.Notation.{WithType, ◌~◌, applied, equality_at}
+use Rattle.lt_transport_definitions.specs.Notation.{WithType, ◌~◌, applied}
 use Rattle.lt_transport_definitions.specs.Patterns.{relation_sides}
 use Rattle.lt_transport_definitions.specs.Relations.{Relation, relation_variable, equality, constructed, Relations, no_relations, relation_and, Registry, form_for, Kind, no_constructor, a_relator, a_correspondence, a_form, kind_of}
 use Rattle.lt_transport_definitions.specs.Expressions.{left_of, left, lefts, right_of, right, rights, MayHave, IsExpression, AreExpressions}
-use Rattle.lt_transport_definitions.specs.RelationTerms.{sides_of_relation, forced_types, constructed_term, written, written_list, relation_term}
+use Rattle.lt_transport_definitions.specs.RelationTerms.{sides_of_relation, forced_types, written, written_list, relation_term}
 use Rattle.lt_transport_definitions.specs.RelatorForm.{interleaved, functions_from}
 use Rattle.lt_transport_laws.specs.Statements.{IsRegistry}
 use Rattle.lt_transport_laws.specs.ImageStatements.{relations_between, IsSoundRegistry}

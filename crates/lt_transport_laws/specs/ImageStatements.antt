@@ -1,14 +1,14 @@
 -- What the law says that the image of a transport has its type.
 -- Source: this project's own.
-use Rattle.std.specs.Prelude.{◌≡◌, ℕ, zero, suc, List, [], ◌∷◌, Bool, true, Some, None, codes, map, length}
+use Rattle.std.specs.Prelude.{◌≡◌, ℕ, zero, suc, List, [], ◌∷◌, true, Some, None, codes, map, length}
 use Rattle.std.specs.List.{zip}
-use Rattle.lt_definitions.specs.Types.{Chars, has_name, are_distinct, found, TypeTree, type_variable, type_constructor, TypeTrees, no_types, type_and, bool, fun, listed, type_instance, type_names, types_names, row}
+use Rattle.lt_definitions.specs.Types.{Chars, has_name, are_distinct, found, TypeTree, type_variable, type_constructor, TypeTrees, no_types, type_and, bool, listed, type_instance, type_names, types_names, row}
 use Rattle.lt_definitions.specs.Terms.{TermTree, free_variable, bound_name, constant, application, abstraction}
 use Rattle.lt_definitions.specs.Typing.{Signature, type_fault, types_fault, HasType}
 use Rattle.lt_nameless.specs.Booleans.{IsSoundSignature}
 use Rattle.lt_transport_definitions.specs.Notation.{◌⇒◌, ◌~◌}
 use Rattle.lt_transport_definitions.specs.Constants.{is_counted}
-use Rattle.lt_transport_definitions.specs.Relations.{Relation, relation_variable, equality, constructed, Relations, no_relations, relation_and, relation_list, Correspondence, RelationVariable, Registry, relator_for, Kind, no_constructor, a_relator, a_correspondence, a_form, kind_of}
+use Rattle.lt_transport_definitions.specs.Relations.{Relation, relation_variable, equality, constructed, Relations, no_relations, relation_and, relation_list, Correspondence, RelationVariable, Registry, relator_for, Kind, a_correspondence, a_form, kind_of}
 use Rattle.lt_transport_definitions.specs.Expressions.{abstract_type, variables_of, left_of, left, right, IsExpression, implication}
 use Rattle.lt_transport_definitions.specs.RelationTerms.{domain_of}
 use Rattle.lt_transport_definitions.specs.RuleForm.{TransferRule}
