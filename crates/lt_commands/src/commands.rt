@@ -13,7 +13,8 @@ use lt_grammar::words::{CommandWord, Head, ItemWord};
 
 impl Maker {
     fn type_decl(&mut self) -> Option<Command>
-        ensures { option_map command_of result ≡ as_item (make_row (item_row items.TypeItem) (made_of self.old)).0 }
+        ensures { option_map command_of result
+            ≡ as_item (make_row (item_row items.TypeItem) (made_of self.old)).0 }
     {
         let number = self.number();
         let label = self.newest_label();
@@ -21,7 +22,8 @@ impl Maker {
     }
 
     fn const_decl(&mut self) -> Option<Command>
-        ensures { option_map command_of result ≡ as_item (make_row (item_row items.Const) (made_of self.old)).0 }
+        ensures { option_map command_of result
+            ≡ as_item (make_row (item_row items.Const) (made_of self.old)).0 }
     {
         let ty = self.whole_type();
         let label = self.newest_label();
@@ -29,7 +31,8 @@ impl Maker {
     }
 
     fn axiom(&mut self) -> Option<Command>
-        ensures { option_map command_of result ≡ as_item (make_row (item_row items.Axiom) (made_of self.old)).0 }
+        ensures { option_map command_of result
+            ≡ as_item (make_row (item_row items.Axiom) (made_of self.old)).0 }
     {
         let term = self.whole();
         let label = self.newest_label();
@@ -37,7 +40,8 @@ impl Maker {
     }
 
     fn def(&mut self) -> Option<Command>
-        ensures { option_map command_of result ≡ as_item (make_row (item_row items.Def) (made_of self.old)).0 }
+        ensures { option_map command_of result
+            ≡ as_item (make_row (item_row items.Def) (made_of self.old)).0 }
     {
         let term = self.whole();
         let ty = self.whole_type();
@@ -46,7 +50,8 @@ impl Maker {
     }
 
     fn typedef(&mut self) -> Option<Command>
-        ensures { option_map command_of result ≡ as_item (make_row (item_row items.Typedef) (made_of self.old)).0 }
+        ensures { option_map command_of result
+            ≡ as_item (make_row (item_row items.Typedef) (made_of self.old)).0 }
     {
         let fourth_label = self.newest_label();
         let third_label = self.newest_label();
@@ -66,7 +71,8 @@ impl Maker {
 
     /// The item that begins so, of the newest things.
     fn item(&mut self, item: ItemWord) -> Option<Command>
-        ensures { option_map command_of result ≡ as_item (make_row (item_row item) (made_of self.old)).0 }
+        ensures { option_map command_of result
+            ≡ as_item (make_row (item_row item) (made_of self.old)).0 }
     {
         match item {
             ItemWord::TypeItem => self.type_decl(),
@@ -78,7 +84,8 @@ impl Maker {
     }
 
     fn law(&mut self) -> Option<Command>
-        ensures { option_map command_of result ≡ (make_row (command_row words.Law) (made_of self.old)).0 }
+        ensures { option_map command_of result
+            ≡ (make_row (command_row words.Law) (made_of self.old)).0 }
     {
         let second_label = self.newest_label();
         let first_label = self.newest_label();
@@ -86,14 +93,16 @@ impl Maker {
     }
 
     fn corr(&mut self) -> Option<Command>
-        ensures { option_map command_of result ≡ (make_row (command_row words.Corr) (made_of self.old)).0 }
+        ensures { option_map command_of result
+            ≡ (make_row (command_row words.Corr) (made_of self.old)).0 }
     {
         let label = self.newest_label();
         Some(Command::Corr(label?))
     }
 
     fn relator(&mut self) -> Option<Command>
-        ensures { option_map command_of result ≡ (make_row (command_row words.Relator) (made_of self.old)).0 }
+        ensures { option_map command_of result
+            ≡ (make_row (command_row words.Relator) (made_of self.old)).0 }
     {
         let sixth_label = self.newest_label();
         let fifth_label = self.newest_label();
@@ -112,42 +121,48 @@ impl Maker {
     }
 
     fn property(&mut self) -> Option<Command>
-        ensures { option_map command_of result ≡ (make_row (command_row words.Property) (made_of self.old)).0 }
+        ensures { option_map command_of result
+            ≡ (make_row (command_row words.Property) (made_of self.old)).0 }
     {
         let label = self.newest_label();
         Some(Command::Property(label?))
     }
 
     fn domain(&mut self) -> Option<Command>
-        ensures { option_map command_of result ≡ (make_row (command_row words.Domain) (made_of self.old)).0 }
+        ensures { option_map command_of result
+            ≡ (make_row (command_row words.Domain) (made_of self.old)).0 }
     {
         let label = self.newest_label();
         Some(Command::Domain(label?))
     }
 
     fn rule(&mut self) -> Option<Command>
-        ensures { option_map command_of result ≡ (make_row (command_row words.Rule) (made_of self.old)).0 }
+        ensures { option_map command_of result
+            ≡ (make_row (command_row words.Rule) (made_of self.old)).0 }
     {
         let label = self.newest_label();
         Some(Command::Rule(label?))
     }
 
     fn lifting(&mut self) -> Option<Command>
-        ensures { option_map command_of result ≡ (make_row (command_row words.Lifting) (made_of self.old)).0 }
+        ensures { option_map command_of result
+            ≡ (make_row (command_row words.Lifting) (made_of self.old)).0 }
     {
         let label = self.newest_label();
         Some(Command::Lifting(label?))
     }
 
     fn lifting_typedef(&mut self) -> Option<Command>
-        ensures { option_map command_of result ≡ (make_row (command_row words.LiftingTypedef) (made_of self.old)).0 }
+        ensures { option_map command_of result
+            ≡ (make_row (command_row words.LiftingTypedef) (made_of self.old)).0 }
     {
         let label = self.newest_label();
         Some(Command::LiftingTypedef(label?))
     }
 
     fn quotient_type(&mut self) -> Option<Command>
-        ensures { option_map command_of result ≡ (make_row (command_row words.QuotientType) (made_of self.old)).0 }
+        ensures { option_map command_of result
+            ≡ (make_row (command_row words.QuotientType) (made_of self.old)).0 }
     {
         let second_label = self.newest_label();
         let term = self.whole();
@@ -157,7 +172,8 @@ impl Maker {
     }
 
     fn lift(&mut self) -> Option<Command>
-        ensures { option_map command_of result ≡ (make_row (command_row words.Lift) (made_of self.old)).0 }
+        ensures { option_map command_of result
+            ≡ (make_row (command_row words.Lift) (made_of self.old)).0 }
     {
         let second_label = self.newest_label();
         let term = self.whole();
@@ -167,14 +183,16 @@ impl Maker {
     }
 
     fn parametric(&mut self) -> Option<Command>
-        ensures { option_map command_of result ≡ (make_row (command_row words.Parametric) (made_of self.old)).0 }
+        ensures { option_map command_of result
+            ≡ (make_row (command_row words.Parametric) (made_of self.old)).0 }
     {
         let label = self.newest_label();
         Some(Command::Parametric(label?))
     }
 
     fn param_rule(&mut self) -> Option<Command>
-        ensures { option_map command_of result ≡ (make_row (command_row words.ParamRule) (made_of self.old)).0 }
+        ensures { option_map command_of result
+            ≡ (make_row (command_row words.ParamRule) (made_of self.old)).0 }
     {
         let third_label = self.newest_label();
         let second_label = self.newest_label();
@@ -183,7 +201,8 @@ impl Maker {
     }
 
     fn equiv(&mut self) -> Option<Command>
-        ensures { option_map command_of result ≡ (make_row (command_row words.Equiv) (made_of self.old)).0 }
+        ensures { option_map command_of result
+            ≡ (make_row (command_row words.Equiv) (made_of self.old)).0 }
     {
         let term = self.whole();
         let label = self.newest_label();
@@ -191,7 +210,8 @@ impl Maker {
     }
 
     fn implies(&mut self) -> Option<Command>
-        ensures { option_map command_of result ≡ (make_row (command_row words.Implies) (made_of self.old)).0 }
+        ensures { option_map command_of result
+            ≡ (make_row (command_row words.Implies) (made_of self.old)).0 }
     {
         let term = self.whole();
         let label = self.newest_label();
@@ -199,7 +219,8 @@ impl Maker {
     }
 
     fn carry(&mut self) -> Option<Command>
-        ensures { option_map command_of result ≡ (make_row (command_row words.Carry) (made_of self.old)).0 }
+        ensures { option_map command_of result
+            ≡ (make_row (command_row words.Carry) (made_of self.old)).0 }
     {
         let third_label = self.newest_label();
         let second_label = self.newest_label();
@@ -208,14 +229,16 @@ impl Maker {
     }
 
     fn abs_eq(&mut self) -> Option<Command>
-        ensures { option_map command_of result ≡ (make_row (command_row words.AbsEq) (made_of self.old)).0 }
+        ensures { option_map command_of result
+            ≡ (make_row (command_row words.AbsEq) (made_of self.old)).0 }
     {
         let label = self.newest_label();
         Some(Command::AbsEq(label?))
     }
 
     fn rep_eq(&mut self) -> Option<Command>
-        ensures { option_map command_of result ≡ (make_row (command_row words.RepEq) (made_of self.old)).0 }
+        ensures { option_map command_of result
+            ≡ (make_row (command_row words.RepEq) (made_of self.old)).0 }
     {
         let label = self.newest_label();
         Some(Command::RepEq(label?))
@@ -223,7 +246,8 @@ impl Maker {
 
     /// The command that begins so, of the newest things.
     fn further(&mut self, command: CommandWord) -> Option<Command>
-        ensures { option_map command_of result ≡ (make_row (command_row command) (made_of self.old)).0 }
+        ensures { option_map command_of result
+            ≡ (make_row (command_row command) (made_of self.old)).0 }
     {
         match command {
             CommandWord::Law => self.law(),

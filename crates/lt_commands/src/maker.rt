@@ -82,7 +82,8 @@ impl Maker {
     }
 
     fn constant_name(&mut self, alloc: Global, name: Name) -> Result<(), Memory>
-        ensures { OnOk result (made_of self.new ≡ put (notes.ConstantName name) (made_of self.old)) }
+        ensures { OnOk result (made_of self.new
+            ≡ put (notes.ConstantName name) (made_of self.old)) }
     {
         let before = mem::replace(&mut self.types, Vec::new(alloc));
         self.heads.push((name, List::from_vec(before)))?;

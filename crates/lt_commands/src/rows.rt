@@ -54,7 +54,8 @@ impl Maker {
     }
 
     fn assume_line(&mut self) -> Option<RuleLine>
-        ensures line { option_map rule_of result ≡ (make_row (rule_row words.Assume) (made_of self.old)).0 }
+        ensures line { option_map rule_of result
+            ≡ (make_row (rule_row words.Assume) (made_of self.old)).0 }
         ensures left { made_of self.new ≡ (make_row (rule_row words.Assume) (made_of self.old)).1 }
     {
         let term = self.whole();
@@ -62,7 +63,8 @@ impl Maker {
     }
 
     fn weaken_line(&mut self) -> Option<RuleLine>
-        ensures line { option_map rule_of result ≡ (make_row (rule_row words.Weaken) (made_of self.old)).0 }
+        ensures line { option_map rule_of result
+            ≡ (make_row (rule_row words.Weaken) (made_of self.old)).0 }
         ensures left { made_of self.new ≡ (make_row (rule_row words.Weaken) (made_of self.old)).1 }
     {
         let number = self.number();
@@ -71,7 +73,8 @@ impl Maker {
     }
 
     fn refl_line(&mut self) -> Option<RuleLine>
-        ensures line { option_map rule_of result ≡ (make_row (rule_row words.Refl) (made_of self.old)).0 }
+        ensures line { option_map rule_of result
+            ≡ (make_row (rule_row words.Refl) (made_of self.old)).0 }
         ensures left { made_of self.new ≡ (make_row (rule_row words.Refl) (made_of self.old)).1 }
     {
         let term = self.whole();
@@ -79,7 +82,8 @@ impl Maker {
     }
 
     fn sym_line(&mut self) -> Option<RuleLine>
-        ensures line { option_map rule_of result ≡ (make_row (rule_row words.Sym) (made_of self.old)).0 }
+        ensures line { option_map rule_of result
+            ≡ (make_row (rule_row words.Sym) (made_of self.old)).0 }
         ensures left { made_of self.new ≡ (make_row (rule_row words.Sym) (made_of self.old)).1 }
     {
         let number = self.number();
@@ -87,7 +91,8 @@ impl Maker {
     }
 
     fn trans_line(&mut self) -> Option<RuleLine>
-        ensures line { option_map rule_of result ≡ (make_row (rule_row words.Trans) (made_of self.old)).0 }
+        ensures line { option_map rule_of result
+            ≡ (make_row (rule_row words.Trans) (made_of self.old)).0 }
         ensures left { made_of self.new ≡ (make_row (rule_row words.Trans) (made_of self.old)).1 }
     {
         let second_number = self.number();
@@ -96,7 +101,8 @@ impl Maker {
     }
 
     fn cong_line(&mut self) -> Option<RuleLine>
-        ensures line { option_map rule_of result ≡ (make_row (rule_row words.Cong) (made_of self.old)).0 }
+        ensures line { option_map rule_of result
+            ≡ (make_row (rule_row words.Cong) (made_of self.old)).0 }
         ensures left { made_of self.new ≡ (make_row (rule_row words.Cong) (made_of self.old)).1 }
     {
         let second_number = self.number();
@@ -105,7 +111,8 @@ impl Maker {
     }
 
     fn abs_line(&mut self) -> Option<RuleLine>
-        ensures line { option_map rule_of result ≡ (make_row (rule_row words.Abs) (made_of self.old)).0 }
+        ensures line { option_map rule_of result
+            ≡ (make_row (rule_row words.Abs) (made_of self.old)).0 }
         ensures left { made_of self.new ≡ (make_row (rule_row words.Abs) (made_of self.old)).1 }
     {
         let number = self.number();
@@ -115,7 +122,8 @@ impl Maker {
     }
 
     fn beta_line(&mut self) -> Option<RuleLine>
-        ensures line { option_map rule_of result ≡ (make_row (rule_row words.Beta) (made_of self.old)).0 }
+        ensures line { option_map rule_of result
+            ≡ (make_row (rule_row words.Beta) (made_of self.old)).0 }
         ensures left { made_of self.new ≡ (make_row (rule_row words.Beta) (made_of self.old)).1 }
     {
         let term = self.whole();
@@ -123,7 +131,8 @@ impl Maker {
     }
 
     fn eta_line(&mut self) -> Option<RuleLine>
-        ensures line { option_map rule_of result ≡ (make_row (rule_row words.Eta) (made_of self.old)).0 }
+        ensures line { option_map rule_of result
+            ≡ (make_row (rule_row words.Eta) (made_of self.old)).0 }
         ensures left { made_of self.new ≡ (make_row (rule_row words.Eta) (made_of self.old)).1 }
     {
         let term = self.whole();
@@ -131,7 +140,8 @@ impl Maker {
     }
 
     fn eqmp_line(&mut self) -> Option<RuleLine>
-        ensures line { option_map rule_of result ≡ (make_row (rule_row words.Eqmp) (made_of self.old)).0 }
+        ensures line { option_map rule_of result
+            ≡ (make_row (rule_row words.Eqmp) (made_of self.old)).0 }
         ensures left { made_of self.new ≡ (make_row (rule_row words.Eqmp) (made_of self.old)).1 }
     {
         let second_number = self.number();
@@ -140,7 +150,8 @@ impl Maker {
     }
 
     fn imp_i_line(&mut self) -> Option<RuleLine>
-        ensures line { option_map rule_of result ≡ (make_row (rule_row words.ImpI) (made_of self.old)).0 }
+        ensures line { option_map rule_of result
+            ≡ (make_row (rule_row words.ImpI) (made_of self.old)).0 }
         ensures left { made_of self.new ≡ (make_row (rule_row words.ImpI) (made_of self.old)).1 }
     {
         let number = self.number();
@@ -149,7 +160,8 @@ impl Maker {
     }
 
     fn mp_line(&mut self) -> Option<RuleLine>
-        ensures line { option_map rule_of result ≡ (make_row (rule_row words.Mp) (made_of self.old)).0 }
+        ensures line { option_map rule_of result
+            ≡ (make_row (rule_row words.Mp) (made_of self.old)).0 }
         ensures left { made_of self.new ≡ (make_row (rule_row words.Mp) (made_of self.old)).1 }
     {
         let second_number = self.number();
@@ -158,7 +170,8 @@ impl Maker {
     }
 
     fn all_i_line(&mut self) -> Option<RuleLine>
-        ensures line { option_map rule_of result ≡ (make_row (rule_row words.AllI) (made_of self.old)).0 }
+        ensures line { option_map rule_of result
+            ≡ (make_row (rule_row words.AllI) (made_of self.old)).0 }
         ensures left { made_of self.new ≡ (make_row (rule_row words.AllI) (made_of self.old)).1 }
     {
         let number = self.number();
@@ -168,7 +181,8 @@ impl Maker {
     }
 
     fn all_e_line(&mut self) -> Option<RuleLine>
-        ensures line { option_map rule_of result ≡ (make_row (rule_row words.AllE) (made_of self.old)).0 }
+        ensures line { option_map rule_of result
+            ≡ (make_row (rule_row words.AllE) (made_of self.old)).0 }
         ensures left { made_of self.new ≡ (make_row (rule_row words.AllE) (made_of self.old)).1 }
     {
         let number = self.number();
@@ -177,7 +191,8 @@ impl Maker {
     }
 
     fn iff_line(&mut self) -> Option<RuleLine>
-        ensures line { option_map rule_of result ≡ (make_row (rule_row words.Iff) (made_of self.old)).0 }
+        ensures line { option_map rule_of result
+            ≡ (make_row (rule_row words.Iff) (made_of self.old)).0 }
         ensures left { made_of self.new ≡ (make_row (rule_row words.Iff) (made_of self.old)).1 }
     {
         let second_number = self.number();
@@ -186,7 +201,8 @@ impl Maker {
     }
 
     fn inst_line(&mut self) -> Option<RuleLine>
-        ensures line { option_map rule_of result ≡ (make_row (rule_row words.Inst) (made_of self.old)).0 }
+        ensures line { option_map rule_of result
+            ≡ (make_row (rule_row words.Inst) (made_of self.old)).0 }
         ensures left { made_of self.new ≡ (make_row (rule_row words.Inst) (made_of self.old)).1 }
     {
         let number = self.number();
@@ -197,7 +213,8 @@ impl Maker {
     }
 
     fn tinst_line(&mut self) -> Option<RuleLine>
-        ensures line { option_map rule_of result ≡ (make_row (rule_row words.Tinst) (made_of self.old)).0 }
+        ensures line { option_map rule_of result
+            ≡ (make_row (rule_row words.Tinst) (made_of self.old)).0 }
         ensures left { made_of self.new ≡ (make_row (rule_row words.Tinst) (made_of self.old)).1 }
     {
         let number = self.number();
@@ -207,7 +224,8 @@ impl Maker {
     }
 
     fn select_line(&mut self) -> Option<RuleLine>
-        ensures line { option_map rule_of result ≡ (make_row (rule_row words.Select) (made_of self.old)).0 }
+        ensures line { option_map rule_of result
+            ≡ (make_row (rule_row words.Select) (made_of self.old)).0 }
         ensures left { made_of self.new ≡ (make_row (rule_row words.Select) (made_of self.old)).1 }
     {
         let term = self.whole();
@@ -215,7 +233,8 @@ impl Maker {
     }
 
     fn ccontr_line(&mut self) -> Option<RuleLine>
-        ensures line { option_map rule_of result ≡ (make_row (rule_row words.Ccontr) (made_of self.old)).0 }
+        ensures line { option_map rule_of result
+            ≡ (make_row (rule_row words.Ccontr) (made_of self.old)).0 }
         ensures left { made_of self.new ≡ (make_row (rule_row words.Ccontr) (made_of self.old)).1 }
     {
         let term = self.whole();
@@ -223,7 +242,8 @@ impl Maker {
     }
 
     fn thm_line(&mut self) -> Option<RuleLine>
-        ensures line { option_map rule_of result ≡ (make_row (rule_row words.Thm) (made_of self.old)).0 }
+        ensures line { option_map rule_of result
+            ≡ (make_row (rule_row words.Thm) (made_of self.old)).0 }
         ensures left { made_of self.new ≡ (make_row (rule_row words.Thm) (made_of self.old)).1 }
     {
         let label = self.newest_label();
