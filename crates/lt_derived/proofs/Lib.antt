@@ -1,0 +1,4 @@
+pub mod Repeated
+pub mod Replaced
+pub mod Stated
+pub mod EquationLemmas
