@@ -168,3 +168,7 @@ equation-concl s n q t e = same-concl (sym e ∙ ap (option_map (λ v. v.concl))
   where
     same-concl : Some t ≡ Some (nameless_equation q.holds.ty q.from q.to) → t ≡ nameless_equation q.holds.ty q.from q.to
     same-concl d = cc d
+
+-- a term that has a type
+pub stands-typed : (s : State) (id : ℕ) (t : Nameless) (ty : TypeTree) → Stands s id t → IsOfType s.signature t ty → IsTyped s.signature s.nodes id
+stands-typed s id t ty k e = record { within = k.within; typed = ap (nameless_fault s.signature) k.is ∙ of-sound s.signature t ty e }

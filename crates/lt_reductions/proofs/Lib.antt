@@ -1,3 +1,4 @@
 pub mod Putting
 pub mod Reducing
 pub mod Placing
+pub mod Shortness

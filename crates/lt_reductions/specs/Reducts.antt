@@ -1,6 +1,7 @@
--- Beta reduction of terms without binder names, by leftmost outermost steps.
-use Rattle.std.specs.Prelude.{◌≡◌, ℕ, zero, suc, ◌+◌, ◌*◌, List, [], ◌∷◌, Bool, true, false, if◌then◌else◌, nat_eq, nat_lt, Option, Some, None, Result, Ok, Err, option_map}
-use Rattle.lt_definitions.specs.Types.{Chars, TypeTree}
+-- Beta reduction of terms without binder names, by leftmost outermost steps, and its limits.
+-- Source: the lambda calculus; a step over indices, and the place that is worked on, are this project's own.
+use Rattle.std.specs.Prelude.{◌≡◌, ℕ, zero, suc, ◌+◌, ◌*◌, ◌<◌, ◌≤◌, List, [], ◌∷◌, length, Bool, true, false, if◌then◌else◌, nat_eq, nat_lt, Option, Some, None, Result, Ok, Err, option_map}
+use Rattle.lt_definitions.specs.Types.{Chars, TypeTree, type_nodes, types_nodes, row}
 use Rattle.lt_nameless.specs.Nameless.{Nameless, nameless_free, nameless_bound, nameless_loose, nameless_constant, nameless_application, nameless_abstraction, IsWhole}
 use Rattle.lt_nameless.specs.NamelessRules.{abstracted}
 
@@ -47,11 +48,30 @@ reduct (nameless_application f a) = in_parts f a (reduct f) (reduct a)
 reduct (nameless_abstraction ty b) = option_map (nameless_abstraction ty) (reduct b)
 reduct _ = None
 
--- how many nodes a term has
+-- how many nodes a term has, those of its types counted
 abbrev pub nodes : Nameless → ℕ
-nodes (nameless_application f a) = suc (nodes f + nodes a)
-nodes (nameless_abstraction ty b) = suc (nodes b)
-nodes _ = 1
+nodes (nameless_free x ty) = 1 + type_nodes ty
+nodes (nameless_bound i) = 1
+nodes (nameless_loose x) = 1
+nodes (nameless_constant c ts) = 1 + types_nodes (row ts)
+nodes (nameless_application f a) = 1 + (nodes f + nodes a)
+nodes (nameless_abstraction ty b) = 1 + (type_nodes ty + nodes b)
+
+-- The same where free variables whose names are longer than a floor stand for bound names, whose binders are open.
+abbrev pub nodes_over : ℕ → Nameless → ℕ
+nodes_over floor (nameless_free x ty) = if nat_lt floor (length x) then 1 else 1 + type_nodes ty
+nodes_over floor (nameless_bound i) = 1
+nodes_over floor (nameless_loose x) = 1
+nodes_over floor (nameless_constant c ts) = 1 + types_nodes (row ts)
+nodes_over floor (nameless_application f a) = 1 + (nodes_over floor f + nodes_over floor a)
+nodes_over floor (nameless_abstraction ty b) = 1 + (type_nodes ty + nodes_over floor b)
+
+-- The names of a term's free variables are no longer than that.
+abbrev pub IsShort : ℕ → Nameless → Type 0
+IsShort n (nameless_free x ty) = length x ≤ n
+IsShort n (nameless_application f a) = IsShort n f × IsShort n a
+IsShort n (nameless_abstraction ty b) = IsShort n b
+IsShort n _ = Unit {0}
 
 -- what the term after k steps tells: too many nodes, a normal form, or how it goes on
 abbrev pub checked : Bool → ℕ → Nameless → Option Nameless → (Nameless → Result Nameless ℕ) → Result Nameless ℕ
@@ -61,9 +81,14 @@ checked false k t (Some u) on = on u
 
 -- The normal form, or the first step k at which a limit is passed: the term after k steps has more than `most` nodes,
 -- or it isn't normal and no step is left. The number of steps that are left comes first.
-abbrev pub normal_from : ℕ → ℕ → ℕ → Nameless → Result Nameless ℕ
-normal_from zero most k t = checked (nat_lt most (nodes t)) k t (reduct t) (λ u. Err k)
-normal_from (suc left) most k t = checked (nat_lt most (nodes t)) k t (reduct t) (λ u. normal_from left most (suc k) u)
+abbrev pub normal_from : (Nameless → ℕ) → ℕ → ℕ → ℕ → Nameless → Result Nameless ℕ
+normal_from size zero most k t = checked (nat_lt most (size t)) k t (reduct t) (λ u. Err k)
+normal_from size (suc left) most k t =
+    checked (nat_lt most (size t)) k t (reduct t) (λ u. normal_from size left most (suc k) u)
+
+-- The normal form within 10,000 steps and 65,536 nodes, or the first step at which a limit is passed.
+unfoldable pub normal_form_of : Nameless → Result Nameless ℕ
+normal_form_of t = normal_from nodes 10000 65536 0 t
 
 -- What is around the place that is worked on, from the inside.
 pub data Around : Type 0 where
@@ -83,16 +108,17 @@ abbrev pub MayStand : List Around → Bool → Type 0
 MayStand (at_function a ∷ fs) b = b ≡ false
 MayStand _ b = Unit {0}
 
--- All before the place is normal, and no redex is around it.
-abbrev pub IsWay : List Around → Type 0
-IsWay [] = Unit {0}
-IsWay (at_function a ∷ fs) = IsWhole 0 a × IsWay fs
-IsWay (at_argument f ∷ fs) = IsWhole 0 f × (is_abstraction f ≡ false) × (reduct f ≡ None) × IsWay fs
-IsWay (at_body x ty ∷ fs) = MayStand fs true × IsWay fs
+-- All before the place is normal, no redex is around it, and each open binder's variable has a name longer than the floor.
+abbrev pub IsWay : ℕ → List Around → Type 0
+IsWay floor [] = Unit {0}
+IsWay floor (at_function a ∷ fs) = IsWhole 0 a × IsWay floor fs
+IsWay floor (at_argument f ∷ fs) =
+    IsWhole 0 f × (is_abstraction f ≡ false) × (reduct f ≡ None) × IsWay floor fs
+IsWay floor (at_body x ty ∷ fs) = MayStand fs true × (floor < length x) × IsWay floor fs
 
 -- what is left to be visited
-abbrev pub weight : List Around → ℕ
-weight [] = 0
-weight (at_function a ∷ fs) = 2 + 3 * nodes a + weight fs
-weight (at_argument f ∷ fs) = 1 + weight fs
-weight (at_body x ty ∷ fs) = 1 + weight fs
+abbrev pub weight : ℕ → List Around → ℕ
+weight floor [] = 0
+weight floor (at_function a ∷ fs) = 2 + 3 * nodes_over floor a + weight floor fs
+weight floor (at_argument f ∷ fs) = 1 + weight floor fs
+weight floor (at_body x ty ∷ fs) = 1 + weight floor fs
