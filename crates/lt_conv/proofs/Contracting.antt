@@ -79,7 +79,7 @@ module _ (s : State) (m : Spot) (q : IsAtRedex s m) where
       ap (λ (u : Nameless). Some u) (put-instance 0 q.a q.b (typed-whole s.signature [] q.a p.0 p.2) (typed-whole s.signature (q.ty ∷ []) q.b here.ty k.2))
 
   stepped : reduct (plug q.runs.around redex) ≡ Some (plug q.runs.around opened)
-  stepped = plug-step q.runs.around redex opened q.runs.way (stands-false q.runs.around) step-is
+  stepped = plug-step m.floor q.runs.around redex opened q.runs.way (stands-false q.runs.around) step-is
 
   rest : normal_from (nodes_over m.floor) q.runs.left 65536 m.steps (plug q.runs.around redex) ≡ q.whole
   rest = ap (λ u. normal_from (nodes_over m.floor) q.runs.left 65536 m.steps (plug q.runs.around u)) (sym q.redex) ∙ q.runs.rest
@@ -93,21 +93,21 @@ module _ (s : State) (m : Spot) (q : IsAtRedex s m) where
   pub at-limit : m.steps ≡ 10000 → q.whole ≡ Err 10000
   at-limit e =
       sym rest ∙ ap (λ l. normal_from (nodes_over m.floor) l 65536 m.steps (plug q.runs.around redex)) (none-left q.runs.left m.steps q.runs.few e)
-      ∙ is-last 65536 m.steps (plug q.runs.around redex) (plug q.runs.around opened) stepped ∙ ap (λ (k : ℕ). Err k) e
+      ∙ is-last (nodes_over m.floor) 65536 m.steps (plug q.runs.around redex) (plug q.runs.around opened) stepped ∙ ap (λ (k : ℕ). Err k) e
 
   pub within : nodes_over m.floor redex ≤ m.size
-  within = let h = plug-least q.runs.around redex in let k = size-is in omega (arith, h, k)
+  within = let h = plug-least m.floor q.runs.around redex q.runs.way in let k = size-is in omega (arith, h, k)
 
   -- the number of nodes_over m.floor behind the step
   pub grown : (before behind : ℕ) → before ≡ nodes_over m.floor redex → behind ≡ nodes_over m.floor opened → (m.size - before) + behind ≡ nodes_over m.floor (plug q.runs.around opened)
-  grown before behind e d = let h = plug-nodes q.runs.around redex opened in let k = size-is in let w = within in omega (arith, h, k, w, e, d)
+  grown before behind e d = let h = plug-nodes m.floor q.runs.around redex opened q.runs.way in let k = size-is in let w = within in omega (arith, h, k, w, e, d)
 
   module _ (n : m.steps ≡ 10000 → ⊥) where
     more : (l : ℕ) × (q.runs.left ≡ suc l)
     more = one-more q.runs.left m.steps q.runs.few n
 
     on : normal_from (nodes_over m.floor) more.0 65536 (suc m.steps) (plug q.runs.around opened) ≡ q.whole
-    on = sym (goes-on more.0 65536 m.steps (plug q.runs.around redex) (plug q.runs.around opened) small stepped)
+    on = sym (goes-on (nodes_over m.floor) more.0 65536 m.steps (plug q.runs.around redex) (plug q.runs.around opened) small stepped)
         ∙ ap (λ l. normal_from (nodes_over m.floor) l 65536 m.steps (plug q.runs.around redex)) (sym more.1) ∙ rest
 
     pub too-large : (before : ℕ) → before ≡ nodes_over m.floor redex → 65536 - (m.size - before) < nodes_over m.floor opened → q.whole ≡ Err (m.steps + 1)
@@ -115,7 +115,7 @@ module _ (s : State) (m : Spot) (q : IsAtRedex s m) where
         let k = grown before (nodes_over m.floor opened) e refl in
         let r = q.runs.small in
         let large : nat_lt 65536 (nodes_over m.floor (plug q.runs.around opened)) ≡ true = less 65536 (nodes_over m.floor (plug q.runs.around opened)) (omega (arith, k, h, r)) in
-        sym on ∙ is-large more.0 65536 (suc m.steps) (plug q.runs.around opened) large ∙ ap (λ (i : ℕ). Err i) (next m.steps)
+        sym on ∙ is-large (nodes_over m.floor) more.0 65536 (suc m.steps) (plug q.runs.around opened) large ∙ ap (λ (i : ℕ). Err i) (next m.steps)
       where
         less : (a b : ℕ) → a < b → nat_lt a b ≡ true
         less a b h = grind (arith, nat_tests)
@@ -124,11 +124,11 @@ module _ (s : State) (m : Spot) (q : IsAtRedex s m) where
         next k = omega arith
 
     pub contracted : (now : State) (line before behind : ℕ) → Carries s now → before ≡ nodes_over m.floor redex → behind ≡ nodes_over m.floor opened → behind ≤ 65536 - (m.size - before) → Equates now line q.runs.start opened
-        → Leads q.whole q.t now (record { frames = m.frames; line = line; down = m.down; steps = m.steps + 1; size = (m.size - before) + behind; room = 3 * ((m.size - before) + behind) }) (Ok tt)
+        → Leads q.whole q.t now (record { frames = m.frames; line = line; down = m.down; floor = m.floor; steps = m.steps + 1; size = (m.size - before) + behind; room = 3 * ((m.size - before) + behind) }) (Ok tt)
     contracted now line before behind c e d h k =
         let g = grown before behind e d in
         let r = q.runs.small in
-        let w = plug-weight q.runs.around opened in
+        let w = plug-weight m.floor q.runs.around opened q.runs.way in
         let sum : more.0 + (m.steps + 1) ≡ 10000 = (let a = q.runs.few in let b = more.1 in omega (arith, a, b)) in (
           record {
             start = q.runs.start;

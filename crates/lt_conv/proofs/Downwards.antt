@@ -115,7 +115,7 @@ module _ (s : State) (m : Spot) (q : IsRunning s m) where
     at-leaf e d =
         let apart : is_abstraction q.runs.focus ≡ false = ap is_abstraction (sym st.is) ∙ d in
         let r = room-is down in
-        let p = nodes-positive q.runs.focus in
+        let p = nodes-positive m.floor q.runs.focus in
         let most = q.room.1 in (
           record {
             start = q.runs.start;
@@ -135,7 +135,7 @@ module _ (s : State) (m : Spot) (q : IsRunning s m) where
         )
 
   pub leaf-room : m.down ≡ true → 1 ≤ m.room
-  leaf-room down = let r = room-is down in let p = nodes-positive q.runs.focus in omega (arith, r, p)
+  leaf-room down = let r = room-is down in let p = nodes-positive m.floor q.runs.focus in omega (arith, r, p)
 
 pub same-leads : (whole other : Result Nameless ℕ) (t u : Nameless) (s : State) (m : Spot) (r : Result (Unit {0}) ConvFault) → whole ≡ other → t ≡ u → Leads whole t s m r → Leads other u s m r
 same-leads whole other t u s m r e d h = subst (λ (w : Result Nameless ℕ). Leads w u s m r) e (subst (λ (v : Nameless). Leads whole v s m r) d h)

@@ -1,6 +1,6 @@
 pub mod Converting
 pub mod Stepping
-pub mod Counting
+pub mod NodeTotals
 pub mod Contracting
 pub mod Moving
 pub mod Upwards

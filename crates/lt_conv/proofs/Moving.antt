@@ -32,7 +32,7 @@ module _ (s : State) (m : Spot) (q : IsAtApplication s m) where
   applied = record { from = q.runs.start; f = q.f; a = q.a; holds = subst (Equates s m.line q.runs.start) q.is q.runs.here }
 
   pub head-leads : (now : State) (line : ℕ) (frames : List Frame) → Carries s now → Equates now line q.f q.f → frames ≡ Function m.line ∷ m.frames
-      → Leads q.whole q.t now (record { frames = frames; line = line; down = m.down; steps = m.steps; size = m.size; room = m.room - 1 }) (Ok tt)
+      → Leads q.whole q.t now (record { frames = frames; line = line; down = m.down; floor = m.floor; steps = m.steps; size = m.size; room = m.room - 1 }) (Ok tt)
   head-leads now line frames c k e =
       let g = c in
       let parts = application-parts s.signature q.f q.a applied.holds.ty applied.holds.right in
@@ -73,7 +73,7 @@ module _ (s : State) (m : Spot) (e k : ℕ) where
     argument-leads : (whole : Result Nameless ℕ) (t : Nameless) (around : List Around) (start focus : Nameless) (left : ℕ) → Levels s (Argument e k ∷ m.frames) around start t → Equates s m.line start focus
         → IsWay m.floor around → IsDone false around focus → m.size ≡ nodes_over m.floor (plug around focus) → m.size ≤ 65536 → left + m.steps ≡ 10000 → normal_from (nodes_over m.floor) left 65536 m.steps (plug around focus) ≡ whole
         → weight m.floor around ≤ m.room → m.room ≤ 196608
-        → Leads whole t now (record { frames = m.frames; line = line; down = m.down; steps = m.steps; size = m.size; room = m.room - 1 }) (Ok tt)
+        → Leads whole t now (record { frames = m.frames; line = line; down = m.down; floor = m.floor; steps = m.steps; size = m.size; room = m.room - 1 }) (Ok tt)
     argument-leads whole t (at_argument g ∷ ps) start focus left h here way done counted small few rest room most =
         let j : Joins s e k m.line = record { from = h.0; f = h.1; a = start; g = g; c = focus; whole = h.2; function = h.3; argument = here } in (
           record {
@@ -96,7 +96,7 @@ module _ (s : State) (m : Spot) (e k : ℕ) where
     argument-leads whole t (at_function a ∷ ps) start focus left h here way done counted small few rest room most = absurd h
     argument-leads whole t (at_body x ty ∷ ps) start focus left h here way done counted small few rest room most = absurd h
 
-    pub left-argument : (q : IsBehindArgument s m e k) → Leads q.whole q.t now (record { frames = m.frames; line = line; down = m.down; steps = m.steps; size = m.size; room = m.room - 1 }) (Ok tt)
+    pub left-argument : (q : IsBehindArgument s m e k) → Leads q.whole q.t now (record { frames = m.frames; line = line; down = m.down; floor = m.floor; steps = m.steps; size = m.size; room = m.room - 1 }) (Ok tt)
     left-argument q =
         let room = subst (λ b. weight m.floor q.runs.around + visit m.floor b q.runs.focus ≤ m.room) q.up q.room.0 in
         argument-leads q.whole q.t q.runs.around q.runs.start q.runs.focus q.runs.left q.runs.levels q.runs.here q.runs.way (subst (λ b. IsDone b q.runs.around q.runs.focus) q.up q.runs.done)
@@ -118,7 +118,7 @@ module _ (s : State) (m : Spot) (e : ℕ) where
     into-leads : (whole : Result Nameless ℕ) (t : Nameless) (around : List Around) (start focus : Nameless) (left : ℕ) → Levels s (Function e ∷ m.frames) around start t → Equates s m.line start focus
         → IsWay m.floor around → IsDone false around focus → m.size ≡ nodes_over m.floor (plug around focus) → m.size ≤ 65536 → left + m.steps ≡ 10000 → normal_from (nodes_over m.floor) left 65536 m.steps (plug around focus) ≡ whole
         → weight m.floor around ≤ m.room → m.room ≤ 196608
-        → Leads whole t now (record { frames = frames; line = line; down = true; steps = m.steps; size = m.size; room = m.room - 1 }) (Ok tt)
+        → Leads whole t now (record { frames = frames; line = line; down = true; floor = m.floor; steps = m.steps; size = m.size; room = m.room - 1 }) (Ok tt)
     into-leads whole t (at_function a ∷ ps) start focus left h here way done counted small few rest room most =
         let g = c in (
           record {
@@ -142,7 +142,7 @@ module _ (s : State) (m : Spot) (e : ℕ) where
     into-leads whole t (at_argument f ∷ ps) start focus left h here way done counted small few rest room most = absurd h
     into-leads whole t (at_body x ty ∷ ps) start focus left h here way done counted small few rest room most = absurd h
 
-    pub into-argument : (q : IsBehindHead s m e) → Leads q.whole q.t now (record { frames = frames; line = line; down = true; steps = m.steps; size = m.size; room = m.room - 1 }) (Ok tt)
+    pub into-argument : (q : IsBehindHead s m e) → Leads q.whole q.t now (record { frames = frames; line = line; down = true; floor = m.floor; steps = m.steps; size = m.size; room = m.room - 1 }) (Ok tt)
     into-argument q =
         let room = subst (λ b. weight m.floor q.runs.around + visit m.floor b q.runs.focus ≤ m.room) q.up q.room.0 in
         into-leads q.whole q.t q.runs.around q.runs.start q.runs.focus q.runs.left q.runs.levels q.runs.here q.runs.way (subst (λ b. IsDone b q.runs.around q.runs.focus) q.up q.runs.done)
@@ -164,7 +164,7 @@ module _ (s : State) (m : Spot) (e : ℕ) (x : Chars) (ty : TypeTree) where
     body-leads : (whole : Result Nameless ℕ) (t : Nameless) (around : List Around) (start focus : Nameless) (left : ℕ) → Levels s (Body e x ty ∷ m.frames) around start t → Equates s m.line start focus
         → IsWay m.floor around → IsDone false around focus → m.size ≡ nodes_over m.floor (plug around focus) → m.size ≤ 65536 → left + m.steps ≡ 10000 → normal_from (nodes_over m.floor) left 65536 m.steps (plug around focus) ≡ whole
         → weight m.floor around ≤ m.room → m.room ≤ 196608
-        → Leads whole t now (record { frames = m.frames; line = line; down = m.down; steps = m.steps; size = m.size; room = m.room - 1 }) (Ok tt)
+        → Leads whole t now (record { frames = m.frames; line = line; down = m.down; floor = m.floor; steps = m.steps; size = m.size; room = m.room - 1 }) (Ok tt)
     body-leads whole t (at_body y u ∷ ps) start focus left h here way done counted small few rest room most =
         let j : Shuts s e x ty m.line = record { from = h.0; b = h.1; c = focus; whole = h.4; new = h.5; body = subst (λ (l : Nameless). Equates s m.line l focus) h.6 here } in
         let same : nameless_abstraction u (abstracted 0 y u focus) ≡ nameless_abstraction ty (abstracted 0 x ty focus) = (λ i. nameless_abstraction (h.3 i) (abstracted 0 (h.2 i) (h.3 i) focus)) in (
@@ -175,7 +175,7 @@ module _ (s : State) (m : Spot) (e : ℕ) (x : Chars) (ty : TypeTree) where
             left = left;
             here = made j;
             levels = levels-kept s now m.frames ps h.0 t c h.7;
-            way = way.1;
+            way = way.2;
             done = subst (λ b. IsDone b ps (nameless_abstraction ty (abstracted 0 x ty focus))) (sym up) (normal-closed x ty focus done.0, way.0);
             counted = counted ∙ ap (λ v. nodes_over m.floor (plug ps v)) same;
             small = small;
@@ -188,7 +188,7 @@ module _ (s : State) (m : Spot) (e : ℕ) (x : Chars) (ty : TypeTree) where
     body-leads whole t (at_function a ∷ ps) start focus left h here way done counted small few rest room most = absurd h
     body-leads whole t (at_argument f ∷ ps) start focus left h here way done counted small few rest room most = absurd h
 
-    pub left-body : (q : IsBehindBody s m e x ty) → Leads q.whole q.t now (record { frames = m.frames; line = line; down = m.down; steps = m.steps; size = m.size; room = m.room - 1 }) (Ok tt)
+    pub left-body : (q : IsBehindBody s m e x ty) → Leads q.whole q.t now (record { frames = m.frames; line = line; down = m.down; floor = m.floor; steps = m.steps; size = m.size; room = m.room - 1 }) (Ok tt)
     left-body q =
         let room = subst (λ b. weight m.floor q.runs.around + visit m.floor b q.runs.focus ≤ m.room) q.up q.room.0 in
         body-leads q.whole q.t q.runs.around q.runs.start q.runs.focus q.runs.left q.runs.levels q.runs.here q.runs.way (subst (λ b. IsDone b q.runs.around q.runs.focus) q.up q.runs.done)
@@ -230,15 +230,15 @@ module _ (s : State) (m : Spot) (q : IsAtAbstraction s m) where
   abbrev pub under : IsUnder s m.line
   under = record { from = q.runs.start; ty = q.ty; b = q.b; holds = subst (Equates s m.line q.runs.start) q.is q.runs.here }
 
-  pub body-into : (now : State) (line : ℕ) (frames : List Frame) (x : Chars) (ty : TypeTree) → Carries s now → IsOpened now q.ty q.b line x ty → frames ≡ Body m.line x ty ∷ m.frames
-      → Leads q.whole q.t now (record { frames = frames; line = line; down = m.down; steps = m.steps; size = m.size; room = m.room - 1 }) (Ok tt)
+  pub body-into : (now : State) (line : ℕ) (frames : List Frame) (x : Chars) (ty : TypeTree) → Carries s now → IsOpened now q.ty q.b line m.floor x ty → frames ≡ Body m.line x ty ∷ m.frames
+      → Leads q.whole q.t now (record { frames = frames; line = line; down = m.down; floor = m.floor; steps = m.steps; size = m.size; room = m.room - 1 }) (Ok tt)
   body-into now line frames x ty c o e =
       let g = c in
       let opened : Nameless = instance_at 0 (nameless_free x q.ty) q.b in
       let h = abstraction-of s.signature q.ty q.b under.holds.ty under.holds.right in
       let back : abstracted 0 x q.ty opened ≡ q.b = opened-closed 0 x q.ty q.b o.new (typed-whole s.signature (q.ty ∷ []) q.b h.0 h.2) in
       let whole : nameless_abstraction q.ty (abstracted 0 x q.ty opened) ≡ q.runs.focus = ap (nameless_abstraction q.ty) back ∙ sym q.is in
-      let many = opened-nodes 0 x q.ty q.b in
+      let many = opened-nodes m.floor 0 x q.ty q.b o.long in
       let room : weight m.floor q.runs.around + 3 * nodes_over m.floor (nameless_abstraction q.ty q.b) ≤ m.room = (
       subst (λ u. weight m.floor q.runs.around + 3 * nodes_over m.floor u ≤ m.room) q.is (subst (λ b. weight m.floor q.runs.around + visit m.floor b q.runs.focus ≤ m.room) q.down q.room.0)) in
       let most = q.room.1 in
@@ -252,7 +252,7 @@ module _ (s : State) (m : Spot) (q : IsAtAbstraction s m) where
           here = o.line;
           levels = subst (λ (fs : List Frame). Levels now fs (at_body x q.ty ∷ q.runs.around) opened q.t) (sym e)
               (subst (λ (u : TypeTree). Levels now (Body m.line x u ∷ m.frames) (at_body x q.ty ∷ q.runs.around) opened q.t) (sym o.same) levels);
-          way = (q.stands, q.runs.way);
+          way = (q.stands, (o.long, q.runs.way));
           done = subst (λ b. IsDone b (at_body x q.ty ∷ q.runs.around) opened) (sym q.down) tt;
           counted = q.runs.counted ∙ ap (λ u. nodes_over m.floor (plug q.runs.around u)) (sym whole);
           small = q.runs.small;

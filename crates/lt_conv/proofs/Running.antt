@@ -3,13 +3,14 @@ use Rattle.std.proofs.Common.{◌≡◌, inl, inr, ℕ, ◌<◌, ◌≤◌, ◌*
 use Rattle.std.proofs.lemmas.Bool.Decides.{nat_tests}
 use Rattle.lt_nameless.specs.Nameless.{Nameless}
 use Rattle.lt_kernel.specs.State.{State}
-use Rattle.lt_reductions.specs.Reducts.{nodes}
+use Rattle.lt_reductions.specs.Reducts.{nodes, nodes_over, IsShort, normal_form_of}
+use Rattle.lt_reductions.proofs.Shortness.{short-nodes, short-limits}
 use Rattle.lt_reductions.proofs.Placing.{is-large}
 use Rattle.lt_conv.specs.declared.machine.Frame.{Frame}
 use Rattle.lt_conv.specs.declared.machine.ConvFault.{ConvFault}
 use Rattle.lt_conv.specs.declared.machine.ConvFault.TheVariants.{NormLimit, Memory}
 use Rattle.lt_derived.specs.Equations.{Equates}
-use Rattle.lt_conv.specs.Machines.{Spot, Levels, Runs, HasRoom, IsRunning, IsLess, Goes, Leads, normal_form_of, Ends}
+use Rattle.lt_conv.specs.Machines.{Spot, Levels, Runs, HasRoom, IsRunning, IsLess, Goes, Leads, Ends}
 
 abbrev pub running : (whole : Result Nameless ℕ) (t : Nameless) (s : State) (m : Spot) → (r : Runs whole t s m) × HasRoom r → IsRunning s m
 running whole t s m h = record { whole = whole; t = t; runs = h.0; room = h.1 }
@@ -33,15 +34,20 @@ goes-on-runs whole t s m true e h = absurd (cc e)
 less : (a b : ℕ) → a < b → nat_lt a b ≡ true
 less a b h = grind (arith, nat_tests)
 
-pub starts-large : (t : Nameless) → 65536 < nodes t → normal_form_of t ≡ Err 0
+pub starts-large : (floor : ℕ) (t : Nameless) → IsShort floor t → 65536 < nodes_over floor t → normal_form_of t ≡ Err 0
 unfolding normal_form_of
-starts-large t h = is-large 10000 65536 0 t (less 65536 (nodes t) h)
+starts-large floor t h l = is-large nodes 10000 65536 0 t (less 65536 (nodes t) (let e = short-nodes floor t h in omega (arith, e, l)))
 
-pub starts : (s : State) (t : Nameless) (line size : ℕ) (frames : List Frame) → Equates s line t t → size ≡ nodes t → size ≤ 65536 → frames ≡ []
-    → (r : Runs (normal_form_of t) t s (record { frames = frames; line = line; down = true; steps = 0; size = size; room = 3 * size })) × HasRoom r
+pub starts : (s : State) (t : Nameless) (floor line size : ℕ) (frames : List Frame) → IsShort floor t → Equates s line t t → size ≡ nodes_over floor t → size ≤ 65536 → frames ≡ []
+    → (r : Runs (normal_form_of t) t s (record { frames = frames; line = line; down = true; floor = floor; steps = 0; size = size; room = 3 * size })) × HasRoom r
 unfolding normal_form_of
-starts s t line size frames k e h is = (
-  record { start = t; focus = t; around = []; left = 10000; here = k; levels = subst (λ fs. Levels s fs [] t t) (sym is) refl; way = tt; done = tt; counted = e; small = h; few = refl; rest = refl },
+starts s t floor line size frames short k e h is = (
+  record {
+    start = t; focus = t; around = []; left = 10000; here = k;
+    levels = subst (λ fs. Levels s fs [] t t) (sym is) refl;
+    way = tt; done = tt; counted = e; small = h; few = refl;
+    rest = short-limits floor 10000 65536 0 t short;
+  },
   (omega (arith, e), omega (arith, h)),
 )
 

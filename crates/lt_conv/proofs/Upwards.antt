@@ -36,7 +36,7 @@ module _ (s : State) (m : Spot) (whole : Result Nameless ℕ) (t : Nameless) whe
       → m.size ≤ 65536 → normal_from (nodes_over m.floor) left 65536 m.steps (plug around focus) ≡ whole → IsEnded whole t s m
   ended-at [] start focus left h here done counted small rest = record {
     normal = focus;
-    gives = sym rest ∙ is-normal left 65536 m.steps focus (omega (arith, counted, small)) done.0;
+    gives = sym rest ∙ is-normal (nodes_over m.floor) left 65536 m.steps focus (omega (arith, counted, small)) done.0;
     line = subst (λ (l : Nameless). Equates s m.line l focus) h here;
   }
   ended-at (at_function a ∷ ps) start focus left h here done counted small rest = absurd h

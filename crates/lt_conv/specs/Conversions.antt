@@ -1,10 +1,10 @@
 -- What conversions answer, and lines whose right sides have a form.
-use Rattle.std.specs.Prelude.{◌≡◌, ℕ, ◌<◌, ◌≤◌, List, [], ◌∷◌, false, length, Option, Some, None}
-use Rattle.lt_definitions.specs.Types.{Chars, TypeTree}
+use Rattle.std.specs.Prelude.{◌≡◌, ℕ, ◌+◌, ◌<◌, ◌≤◌, if◌then◌else◌, nat_lt, false, length, Option, Some, None}
+use Rattle.lt_definitions.specs.Types.{Chars, TypeTree, row, type_nodes, types_nodes}
 use Rattle.lt_nameless.specs.Nameless.{Nameless, nameless_free, nameless_application, nameless_abstraction}
 use Rattle.lt_nameless.specs.NamelessRules.{nameless_has_free, instance_at}
 use Rattle.lt_store.specs.declared.node.Node.{Node}
-use Rattle.lt_store.specs.declared.node.Node.TheVariants.{Free, App, Lam}
+use Rattle.lt_store.specs.declared.node.Node.TheVariants.{Free, Bound, Const, App, Lam}
 use Rattle.lt_kernel.specs.State.{State}
 use Rattle.lt_derived.specs.Equations.{Equates}
 
@@ -66,12 +66,6 @@ pub record Shuts (s : State) (e : ℕ) (x : Chars) (ty : TypeTree) (n : ℕ) : T
   pub new : nameless_has_free x ty b ≡ false
   pub body : Equates s n (instance_at 0 (nameless_free x ty) b) c
 
--- the children of a node
-abbrev pub child_ids : Node → List ℕ
-child_ids (App f a) = f ∷ a ∷ []
-child_ids (Lam t b) = b ∷ []
-child_ids _ = []
-
 -- a number up to a limit, or that it is greater
 abbrev pub Counts : ℕ → ℕ → Option ℕ → Type 0
 Counts most n (Some k) = (k ≡ n) × (k ≤ most)
@@ -82,15 +76,21 @@ abbrev pub node_length : Node → ℕ
 node_length (Free x ty) = length x
 node_length _ = 0
 
--- The names of a term's free variables are no longer than that.
-abbrev pub IsShort : ℕ → Nameless → Type 0
-IsShort n (nameless_free x ty) = length x ≤ n
-IsShort n (nameless_application f a) = IsShort n f × IsShort n a
-IsShort n (nameless_abstraction ty b) = IsShort n b
-IsShort n _ = Unit {0}
+-- how many nodes a free variable has; it counts as a bound name where its name is longer than the floor
+abbrev pub variable_count : ℕ → Chars → TypeTree → ℕ
+variable_count floor x ty = if nat_lt floor (length x) then 1 else 1 + type_nodes ty
 
--- A line |- b = b, with the body b opened by a variable that isn't in it.
-pub record IsOpened (s : State) (ty : TypeTree) (b : Nameless) (n : ℕ) (x : Chars) (u : TypeTree) : Type 0 where
+-- how many nodes a node stands for: itself, and those of its types
+abbrev pub node_count : ℕ → Node → ℕ
+node_count floor (Free x ty) = variable_count floor x ty
+node_count floor (Bound i) = 1
+node_count floor (Const c ts) = 1 + types_nodes (row ts)
+node_count floor (App f a) = 1
+node_count floor (Lam ty b) = 1 + type_nodes ty
+
+-- A line |- b = b, with the body b opened by a variable that isn't in it and whose name is longer than the floor.
+pub record IsOpened (s : State) (ty : TypeTree) (b : Nameless) (n floor : ℕ) (x : Chars) (u : TypeTree) : Type 0 where
   pub same : u ≡ ty
   pub new : nameless_has_free x ty b ≡ false
+  pub long : floor < length x
   pub line : Equates s n (instance_at 0 (nameless_free x ty) b) (instance_at 0 (nameless_free x ty) b)

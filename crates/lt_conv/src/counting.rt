@@ -1,36 +1,19 @@
 //! How many nodes terms have.
-ghost use Rattle.std.specs.Prelude.{◌+◌, ◌≡◌, ◌<◌, ◌++◌, false, length, IfOk, OnOk, true, None, ◌∷◌, reverse, IfSome};
+ghost use Rattle.std.specs.Prelude.{min, ◌^◌, ◌-◌, ◌≤◌, ◌+◌, ◌≡◌, ◌<◌, length, IfOk, None};
+ghost use Rattle.lt_definitions.specs.Types.{types_nodes, row};
 ghost use Rattle.lt_store.specs.Trees.{tree_at};
 ghost use Rattle.lt_store.specs.Views.{node_of};
-ghost use Rattle.lt_reductions.specs.Reducts.{nodes};
-ghost use Rattle.lt_formulas.specs.Shapes.{is_application};
-ghost use Rattle.lt_conv.specs.declared.machine.Frame.TheVariants.{Function};
+ghost use Rattle.lt_reductions.specs.Reducts.{nodes_over};
 ghost use Rattle.lt_conv.specs.declared.machine.ConvFault.TheVariants.{Memory};
-ghost use Rattle.lt_kernel.specs.Growing.{Carries};
 ghost use Rattle.lt_derived.specs.Equations.{IsEquation};
-ghost use Rattle.lt_conv.specs.Conversions.{child_ids, Counts};
-ghost use Rattle.lt_conv.specs.Machines.{spot, IsAtRedex, IsAtApplication, IsAtAbstraction, IsBehindHead, IsBehindArgument, IsBehindBody, IsNearer, IsNearerOrEnded, IsRunning, IsHeadAbstraction, IsLess, IsNoHead, normal_form_of, Ends, IsRedexOf, gone, Goes, Leads};
+ghost use Rattle.lt_conv.specs.Conversions.{node_count, variable_count, Counts};
 
 use lt_derived::equations::right;
+use lt_derived::type_lengths::push_children;
 use lt_hol::{Memory, Name, Ty};
 use lt_kernel::Proof;
 use lt_store::{Id, TermStore, View};
 use std::alloc::Global;
-
-/// Adds the children of a node.
-pub(crate) fn push_children(todo: &mut Vec<Id>, view: View<'_>) -> Result<(), Memory>
-    ensures { OnOk result (todo.new.items ≡ todo.old.items ++ child_ids (node_of view.entry)) }
-{
-    match view {
-        View::App(f, a) => {
-            todo.push(f)?;
-            todo.push(a)?;
-        }
-        View::Lam(_, body) => todo.push(body)?,
-        View::Free(_, _) | View::Bound(_) | View::Const(_, _) => {}
-    }
-    Ok(())
-}
 
 /// How many nodes types have together, or 2^64 - 1 where there are more.
 fn types_count(types: &[Ty]) -> usize

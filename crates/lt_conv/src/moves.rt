@@ -1,15 +1,9 @@
 //! Moves on the way to a normal form: one step, and those from a place to the next.
-ghost use Rattle.std.specs.Prelude.{◌+◌, ◌≡◌, ◌<◌, ◌++◌, false, length, IfOk, OnOk, true, None, ◌∷◌, reverse, IfSome};
-ghost use Rattle.lt_store.specs.Trees.{tree_at};
-ghost use Rattle.lt_store.specs.Views.{node_of};
-ghost use Rattle.lt_reductions.specs.Reducts.{nodes};
-ghost use Rattle.lt_formulas.specs.Shapes.{is_application};
+ghost use Rattle.std.specs.Prelude.{◌+◌, ◌≡◌, ◌<◌, OnOk, true};
 ghost use Rattle.lt_conv.specs.declared.machine.Frame.TheVariants.{Function};
 ghost use Rattle.lt_conv.specs.declared.machine.ConvFault.TheVariants.{Memory};
 ghost use Rattle.lt_kernel.specs.Growing.{Carries};
-ghost use Rattle.lt_derived.specs.Equations.{IsEquation};
-ghost use Rattle.lt_conv.specs.Conversions.{child_ids, Counts};
-ghost use Rattle.lt_conv.specs.Machines.{spot, IsAtRedex, IsAtApplication, IsAtAbstraction, IsBehindHead, IsBehindArgument, IsBehindBody, IsNearer, IsNearerOrEnded, IsRunning, IsHeadAbstraction, IsLess, IsNoHead, normal_form_of, Ends, IsRedexOf, gone, Goes, Leads};
+ghost use Rattle.lt_conv.specs.Machines.{spot, IsAtRedex, IsAtApplication, IsAtAbstraction, IsBehindHead, IsBehindArgument, IsBehindBody, IsNearer, IsHeadAbstraction, IsRedexOf, Leads};
 
 use crate::counting::count_right;
 use crate::machine::{ConvFault, Frame, Machine};

@@ -6,11 +6,12 @@ ghost use Rattle.lt_nameless.specs.NamelessRules.{nameless_has_free};
 ghost use Rattle.lt_store.specs.Trees.{tree_at};
 ghost use Rattle.lt_store.specs.Views.{node_of};
 ghost use Rattle.lt_kernel.specs.Growing.{Carries};
+ghost use Rattle.lt_reductions.specs.Reducts.{IsShort};
 ghost use Rattle.lt_derived.specs.Equations.{Stands};
-ghost use Rattle.lt_conv.specs.Conversions.{IsUnder, node_length, IsShort, IsOpened};
+ghost use Rattle.lt_conv.specs.Conversions.{IsUnder, node_length, IsOpened};
 
 use lt_derived::equations::{beta, refl, right};
-use crate::counting::push_children;
+use lt_derived::type_lengths::push_children;
 use lt_hol::{Memory, Name, TryCopy, Ty};
 use lt_kernel::Proof;
 use lt_store::{Id, TermStore, View};

@@ -1,21 +1,20 @@
 -- Rules over lines that equate terms.
-use Rattle.std.proofs.Common.{◌≡◌, ℕ, [], ◌∷◌, is_ok, is_some, true, Option, Result, Ok, Err, Some, None, refl, sym, ◌∙◌, ap, subst, arith}
+use Rattle.std.proofs.Common.{◌≡◌, ℕ, [], is_ok, is_some, true, Option, Ok, Some, None, refl, sym, ◌∙◌, ap, subst, arith}
 use Rattle.std.specs.Option.{option_map}
-use Rattle.std.specs.Result.{result_unwrap_or, result_err}
+use Rattle.std.specs.Result.{result_unwrap_or}
 use Rattle.lt_definitions.specs.Types.{Chars, TypeTree, bool, fun}
-use Rattle.lt_definitions.specs.Typing.{Signature, Fault, type_fault}
+use Rattle.lt_definitions.specs.Typing.{Signature, type_fault}
 use Rattle.lt_definitions.specs.Rules.{line_at, joined_type}
 use Rattle.lt_definitions.proofs.RuleLemmas.{found-on}
 use Rattle.lt_definitions.proofs.TypingLemmas.{typed-some, joined-fun}
-use Rattle.lt_nameless.specs.Nameless.{Nameless, nameless_application, nameless_abstraction, NamelessSequent}
+use Rattle.lt_nameless.specs.Nameless.{Nameless, nameless_application, nameless_abstraction}
 use Rattle.lt_nameless.specs.NamelessRules.{NamelessOutcome, nameless_typed, nameless_fault, nameless_equation, nameless_beta, abstracted, nameless_refl_gives, nameless_beta_gives, nameless_sym_gives, nameless_trans_gives, nameless_cong_gives, nameless_abs_gives}
 use Rattle.lt_nameless.proofs.SameForms.{same-refl}
 use Rattle.lt_nameless.proofs.NamelessRuleLemmas.{sym-gives, trans-gives, cong-gives, abs-gives}
-use Rattle.lt_store.specs.Trees.{tree_at}
 use Rattle.lt_store.specs.Typed.{IsTyped}
 use Rattle.lt_store.proofs.TreeLemmas.{tree_at-extends}
 use Rattle.lt_kernel.specs.State.{State, sequents}
-use Rattle.lt_kernel.specs.Growing.{Grows, Carries}
+use Rattle.lt_kernel.specs.Growing.{Carries}
 use Rattle.lt_kernel.specs.Reaching.{IsGiven}
 use Rattle.lt_kernel.proofs.GrowingLemmas.{carries-grows}
 use Rattle.lt_kernel.proofs.ReachingLemmas.{reached-line}

@@ -1,5 +1,5 @@
 -- Rules that are repeated, one more time.
-use Rattle.std.proofs.Common.{◌≡◌, ℕ, zero, suc, ◌+◌, ◌<◌, ◌≤◌, List, [], ◌∷◌, length, get_or, take, drop, drop-cons, add-one, is_some, true, Ok, Err, Option, Some, None, refl, sym, ◌∙◌, ap, subst, arith}
+use Rattle.std.proofs.Common.{◌≡◌, ℕ, zero, suc, ◌+◌, ◌<◌, ◌≤◌, List, [], ◌∷◌, length, get_or, take, drop, drop-cons, add-one, is_some, true, Err, Option, Some, None, refl, sym, ◌∙◌, ap, subst, arith}
 use Rattle.std.specs.List.{All}
 use Rattle.std.proofs.lemmas.List.Elements.{All-get_or}
 use Rattle.lt_definitions.specs.Typing.{with_ok}
@@ -12,7 +12,7 @@ use Rattle.lt_store.specs.Typed.{IsTyped}
 use Rattle.lt_store.proofs.TreeLemmas.{tree_at-extends}
 use Rattle.lt_kernel.specs.declared.rule_fault.RuleFault.{RuleFault}
 use Rattle.lt_kernel.specs.State.{State, sequents}
-use Rattle.lt_kernel.specs.Growing.{Grows, Carries}
+use Rattle.lt_kernel.specs.Growing.{Carries}
 use Rattle.lt_kernel.specs.Reaching.{Holds, IsGiven, Reaches}
 use Rattle.lt_kernel.proofs.GrowingLemmas.{carries-grows}
 use Rattle.lt_kernel.proofs.ReachingLemmas.{next-holds, next-fails}

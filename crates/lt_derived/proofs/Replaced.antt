@@ -1,8 +1,9 @@
 -- Types put in lines.
-use Rattle.std.proofs.Common.{◌≡◌, ℕ, zero, suc, ◌+◌, ◌<◌, ◌≤◌, List, [], ◌∷◌, length, map, get_or, drop, drop-cons, add-one, max, Bool, true, false, ◌||◌, not, is_some, is_ok, Ok, Option, Some, None, refl, sym, ◌∙◌, ap, arith}
+use Rattle.std.proofs.Common.{◌≡◌, ℕ, zero, suc, ◌+◌, ◌<◌, ◌≤◌, List, [], ◌∷◌, length, map, get_or, drop, drop-cons, add-one, max, Bool, true, false, ◌||◌, not, is_some, is_ok, Option, Some, None, refl, sym, ◌∙◌, ap, subst, arith}
 use Rattle.std.specs.Option.{option_map}
 use Rattle.std.specs.List.{list_all}
 use Rattle.std.proofs.lemmas.Bool.{true≢false, and_parts, and_from}
+use Rattle.std.proofs.lemmas.List.{length-map}
 use Rattle.lt_definitions.specs.Types.{Chars, has_name, same_name, TypeTree, TypeTrees, type_variable, type_constructor, no_types, type_and, TypeMap, row}
 use Rattle.lt_definitions.specs.Typing.{Signature, type_fault, types_fault}
 use Rattle.lt_definitions.specs.Rules.{line_at}
@@ -15,7 +16,7 @@ use Rattle.lt_kernel.specs.State.{State, sequents}
 use Rattle.lt_kernel.specs.Reaching.{IsGiven}
 use Rattle.lt_kernel.proofs.ReachingLemmas.{reached-line}
 use Rattle.lt_programs.specs.Programs.{theorem, put_each, paired}
-use Rattle.lt_programs.specs.TypeLengths.{longest_type_variable, longest_of}
+use Rattle.lt_programs.specs.TypeLengths.{longest_type_variable}
 use Rattle.lt_programs.proofs.Sequential.{IsApart, puts-apart}
 use Rattle.lt_programs.proofs.Renamed.{puts-renamed}
 use Rattle.lt_derived.proofs.Repeated.{some-of}
@@ -112,11 +113,11 @@ put-clear ns ts p o q clear e d =
     d ∙ ap (option_map (put_each (paired ns ts))) e ∙ ap (λ (s : NamelessSequent). Some s) (puts-apart ns ts p (clear-apart ns ts (clear-list ns ts clear)))
 
 -- .. and through new names
-pub put-renamed : (k : ℕ) (ns new : List Chars) (ts vars : List TypeTree) (p : Nameless) (o r q : Option NamelessSequent) → length ns ≡ length ts
-    → k ≡ longest_of ns ts → new ≡ long_names k (length ns) → vars ≡ map type_variable new → longest_type_variable p ≤ longest_of ns ts
+pub put-renamed : (k least : ℕ) (ns new : List Chars) (ts vars : List TypeTree) (p : Nameless) (o r q : Option NamelessSequent) → length ns ≡ length ts
+    → k ≡ max (max (longest_name ns) (longest_in (row ts))) least → new ≡ long_names k (length ns) → vars ≡ map type_variable new → longest_type_variable p ≤ least
     → o ≡ Some (theorem p) → r ≡ option_map (put_each (paired ns vars)) o → q ≡ option_map (put_each (paired new ts)) r
     → q ≡ Some (theorem (nameless_instance (paired ns ts) p))
-put-renamed k ns new ts vars p o r q l m is vs short e d c =
+put-renamed k least ns new ts vars p o r q l m is vs short e d c =
     c ∙ ap (option_map (put_each (paired new ts))) (d ∙ ap (option_map (put_each (paired ns vars))) e)
     ∙ (λ i. Some (put_each (paired (is i) ts) (put_each (paired ns ((vs ∙ ap (map type_variable) is) i)) (theorem p))))
     ∙ ap (λ (s : NamelessSequent). Some s) (puts-renamed k ns ts p l (omega (arith, m)) (omega (arith, m)) (omega (arith, m, short)))
@@ -125,3 +126,17 @@ put-renamed k ns new ts vars p o r q l m is vs short e d c =
 pub paired-parts : (m : TypeMap) → paired (map (λ p. p.0) m) (map (λ p. p.1) m) ≡ m
 paired-parts [] = refl
 paired-parts (p ∷ m) = ap (λ ps. p ∷ ps) (paired-parts m)
+
+-- what is given of a map's names and types is given of the map
+pub of-map : (Q : TypeMap → Type 0) (m : TypeMap) (ns : List Chars) (ts : List TypeTree) → ns ≡ map (λ p. p.0) m → ts ≡ map (λ p. p.1) m → Q (paired ns ts) → Q m
+of-map Q m ns ts e d h = subst Q ((λ i. paired (e i) (d i)) ∙ paired-parts m) h
+
+pub as-many : (m : TypeMap) (ns : List Chars) (ts : List TypeTree) → ns ≡ map (λ p. p.0) m → ts ≡ map (λ p. p.1) m → length ns ≡ length ts
+as-many m ns ts e d = ap length e ∙ length-map m _ ∙ sym (length-map m _) ∙ sym (ap length d)
+
+-- a statement that is a line's
+pub line-statement : (o : Option NamelessSequent) (p t : Nameless) → o ≡ Some (theorem p) → option_map (λ s. s.concl) o ≡ Some t → t ≡ p
+line-statement o p t e d = same (sym d ∙ ap (option_map (λ s. s.concl)) e)
+  where
+    same : Some t ≡ Some p → t ≡ p
+    same q = cc q

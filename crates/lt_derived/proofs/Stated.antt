@@ -1,5 +1,5 @@
 -- Instances of named statements.
-use Rattle.std.proofs.Common.{◌≡◌, ℕ, List, length, map, true, ◌≤◌, Result, Ok, Err, Option, Some, None, IfSome, refl, sym, ◌∙◌, ap, subst, arith}
+use Rattle.std.proofs.Common.{◌≡◌, ℕ, List, length, Result, Ok, Err, Option, Some, None, refl, sym, ◌∙◌, ap, subst}
 use Rattle.std.specs.List.{All}
 use Rattle.lt_definitions.specs.Types.{Chars, found, TypeMap}
 use Rattle.lt_definitions.specs.Typing.{Signature}
@@ -14,10 +14,9 @@ use Rattle.lt_store.proofs.Lists.{trees-extends}
 use Rattle.lt_kernel.specs.declared.rule_fault.RuleFault.{RuleFault}
 use Rattle.lt_kernel.specs.State.{State, sequents, statements}
 use Rattle.lt_kernel.specs.Growing.{Carries}
-use Rattle.lt_kernel.specs.Reaching.{Holds, IsGiven, Reaches}
+use Rattle.lt_kernel.specs.Reaching.{IsGiven, Reaches}
 use Rattle.lt_kernel.proofs.GrowingLemmas.{carries-grows}
 use Rattle.lt_programs.specs.Programs.{theorem, at_each, statement_at, named_at}
-use Rattle.lt_programs.specs.TypeLengths.{longest_type_variable}
 
 -- A line has a named statement.
 pub record HasStatement (s : State) (named : List (Chars × Nameless)) (label : Chars) (n : ℕ) : Type 0 where
@@ -32,9 +31,6 @@ stated s named l n h = by (found l named) refl h.goes
     by None e d = absurd (cc d)
     by (Some p) e d = let same : h.sequent ≡ theorem p = sym (cc d) in
         record { statement = p; is = e; line = h.line ∙ ap (λ (q : NamelessSequent). Some q) same }
-
-named-short : (k : ℕ) (o : Option Nameless) (x : Nameless) → o ≡ Some x → IfSome o (λ p. longest_type_variable p ≤ k) → longest_type_variable x ≤ k
-named-short k o x e h = subst (λ (p : Option Nameless). IfSome p (λ q. longest_type_variable q ≤ k)) e h
 
 pub same-reaches : (s : State) (r : Result ℕ RuleFault) (o p : NamelessOutcome) → o ≡ p → Reaches s r o → Reaches s r p
 same-reaches s r o p e h = subst (λ (q : NamelessOutcome). Reaches s r q) e h
@@ -52,16 +48,15 @@ unstated sig named l copy m ts r same e = subst (λ (c : Chars). named_at sig na
     by (Some p) d q = absurd (cc q)
 
 -- the whole, from what is known of each line
-pub instance-line : (old first mid : State) (l copy : Chars) (m : TypeMap) (k : ℕ) (ids : List ℕ) (n r : ℕ) → copy ≡ l → Carries old first → Carries first mid
+pub instance-line : (old first mid : State) (l copy : Chars) (m : TypeMap) (ids : List ℕ) (n r : ℕ) → copy ≡ l → Carries old first → Carries first mid
     → All (IsTyped old.signature old.nodes) ids → IsGiven first n (nameless_thm_gives (statements old) copy)
-    → IfSome (found l (statements old)) (λ p. longest_type_variable p ≤ k)
-    → ((p : Nameless) → line_at (sequents first) n ≡ Some (theorem p) → longest_type_variable p ≤ k → line_at (sequents mid) r ≡ Some (theorem (nameless_instance m p)))
+    → ((p : Nameless) → line_at (sequents first) n ≡ Some (theorem p) → line_at (sequents mid) r ≡ Some (theorem (nameless_instance m p)))
     → with_line (sequents mid) r (at_each mid.signature (trees mid.nodes ids)) ≡ named_at old.signature (statements old) l m (trees old.nodes ids)
-instance-line old first mid l copy m k ids n r same a b typed given short then =
+instance-line old first mid l copy m ids n r same a b typed given then =
     let s = stated first (statements old) copy n given in
     let named : found l (statements old) ≡ Some s.statement = sym (ap (λ c. found c (statements old)) same) ∙ s.is in
     let g = carries-grows old mid (λ f h. b f (a f h)) in
     let below : AllBelow (length old.nodes) ids = λ j d w. (typed j d w).within in
-    ap (λ o. with_found MissingLine o (at_each mid.signature (trees mid.nodes ids))) (then s.statement s.line (named-short k (found l (statements old)) s.statement named short))
+    ap (λ o. with_found MissingLine o (at_each mid.signature (trees mid.nodes ids))) (then s.statement s.line)
     ∙ (λ i. at_each (g.stays.signature i) (trees-extends old.nodes mid.nodes ids g.stays.nodes below i) (theorem (nameless_instance m s.statement)))
     ∙ sym (ap (λ o. with_found UnknownLabel o (statement_at old.signature m (trees old.nodes ids))) named)

@@ -5,6 +5,7 @@ pub mod equations;
 mod instances;
 mod putting;
 mod repeating;
+pub mod type_lengths;
 
-pub use instances::instance;
+pub use instances::{instance, instance_at};
 pub use repeating::{chain, spec};

@@ -9,8 +9,9 @@ ghost use Rattle.lt_nameless.specs.NamelessRules.{nameless_instance, put_one};
 ghost use Rattle.lt_kernel.specs.State.{sequents};
 ghost use Rattle.lt_kernel.specs.Growing.{Carries};
 ghost use Rattle.lt_programs.specs.Programs.{theorem, put_each, paired};
-ghost use Rattle.lt_programs.specs.TypeLengths.{longest_type_variable, longest_of};
+ghost use Rattle.lt_programs.specs.TypeLengths.{longest_type_variable};
 
+use crate::type_lengths::longest_type_variable;
 use lt_hol::{Memory, Name, Names, TryCopy, Ty, TyMap, Tys, are_clear, long_names, longest, variables};
 use lt_kernel::Proof;
 use lt_kernel::sure::tinst;
@@ -57,24 +58,24 @@ fn put_each<S: TermStore>(
     Ok(line)
 }
 
-/// The same through new names, so that no type has a variable that is still to be replaced.
+/// The same through new names, so that no type has a variable that is still to be replaced. They are longer than `least`.
 fn put_renamed<S: TermStore>(
     alloc: Global,
     proof: &mut Proof<S>,
     i: usize,
     names: &[Name],
     types: &[Ty],
+    least: usize,
 ) -> Result<usize, Memory>
     requires there { is_some (line_at (sequents proof.old) i) ≡ true }
     requires count { length names.now ≡ length types.now }
     requires sound { types_fault proof.old.signature (row types.now) ≡ None }
     ensures carries { Carries proof.old proof.new }
     ensures line { (p : Nameless) → line_at (sequents proof.old) i ≡ Some (theorem p)
-        → longest_type_variable p ≤ longest_of names.now types.now
-        → IfOk result (λ n. line_at (sequents proof.new) n
+        → longest_type_variable p ≤ least → IfOk result (λ n. line_at (sequents proof.new) n
         ≡ Some (theorem (nameless_instance (paired names.now types.now) p))) }
 {
-    let longest = longest(names, types).max(1);
+    let longest = longest(names, types).max(least);
     if longest.checked_add(names.len()).is_none() {
         return Err(Memory);
     }
@@ -86,7 +87,9 @@ fn put_renamed<S: TermStore>(
 }
 
 /// From `|- p`: `|- p` with the types put for the names at once.
-fn put_at_once<S: TermStore>(
+///
+/// It adds a line for each name, and two where a type has a variable of one of the names; then the statement is walked once.
+pub(crate) fn put_at_once<S: TermStore>(
     alloc: Global,
     proof: &mut Proof<S>,
     i: usize,
@@ -98,18 +101,19 @@ fn put_at_once<S: TermStore>(
     requires sound { types_fault proof.old.signature (row types.now) ≡ None }
     ensures carries { Carries proof.old proof.new }
     ensures line { (p : Nameless) → line_at (sequents proof.old) i ≡ Some (theorem p)
-        → longest_type_variable p ≤ longest_of names.now types.now
         → IfOk result (λ n. line_at (sequents proof.new) n
         ≡ Some (theorem (nameless_instance (paired names.now types.now) p))) }
 {
     if are_clear(names, types) {
         return Ok(put_each(alloc, proof, i, names, types)?);
     }
-    Ok(put_renamed(alloc, proof, i, names, types)?)
+    let concl = proof.conclusion(i);
+    let least = longest_type_variable(alloc, proof, concl)?;
+    Ok(put_renamed(alloc, proof, i, names, types, least)?)
 }
 
 /// The names of a map's pairs.
-fn names_of(alloc: Global, map: &TyMap) -> Result<Names, Memory>
+pub(crate) fn names_of(alloc: Global, map: &TyMap) -> Result<Names, Memory>
     ensures { IfOk result (λ names. names ≡ map (λ p. p.0) map.now) }
 {
     let mut names = Names::new(alloc);
@@ -121,7 +125,7 @@ fn names_of(alloc: Global, map: &TyMap) -> Result<Names, Memory>
 }
 
 /// The types of a map's pairs.
-fn types_of(alloc: Global, map: &TyMap) -> Result<Tys, Memory>
+pub(crate) fn types_of(alloc: Global, map: &TyMap) -> Result<Tys, Memory>
     ensures { IfOk result (λ types. types ≡ map (λ p. p.1) map.now) }
 {
     let mut types = Tys::new(alloc);
@@ -130,26 +134,4 @@ fn types_of(alloc: Global, map: &TyMap) -> Result<Tys, Memory>
         types.push(alloc, ty.copy(alloc)?)?;
     }
     Ok(types)
-}
-
-/// From `|- p`: `|- p` with the types of the map put for its names at once.
-///
-/// It adds a line for each pair, and two where a type has one of the names.
-pub(crate) fn put_types<S: TermStore>(
-    alloc: Global,
-    proof: &mut Proof<S>,
-    i: usize,
-    types: &TyMap,
-) -> Result<usize, Memory>
-    requires there { is_some (line_at (sequents proof.old) i) ≡ true }
-    requires sound { types_fault proof.old.signature (row (map (λ p. p.1) types.now)) ≡ None }
-    ensures carries { Carries proof.old proof.new }
-    ensures line { (p : Nameless) → line_at (sequents proof.old) i ≡ Some (theorem p)
-        → longest_type_variable p ≤ longest_of (map (λ q. q.0) types.now) (map (λ q. q.1) types.now)
-        → IfOk result (λ n. line_at (sequents proof.new) n
-        ≡ Some (theorem (nameless_instance types.now p))) }
-{
-    let names = names_of(alloc, types)?;
-    let types = types_of(alloc, types)?;
-    Ok(put_at_once(alloc, proof, i, names.as_slice(), types.as_slice())?)
 }

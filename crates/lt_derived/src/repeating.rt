@@ -1,5 +1,5 @@
 //! Rules that are repeated.
-ghost use Rattle.std.specs.Prelude.{◌≡◌, ◌≤◌, length, take, drop, IfOk};
+ghost use Rattle.std.specs.Prelude.{◌≤◌, length, take, drop};
 ghost use Rattle.std.specs.List.{All};
 ghost use Rattle.lt_definitions.specs.Rules.{with_line};
 ghost use Rattle.lt_store.specs.Trees.{trees};

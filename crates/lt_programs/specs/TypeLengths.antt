@@ -1,9 +1,9 @@
 -- How long the type variables of terms are.
 -- Source: this project's own.
-use Rattle.std.specs.Prelude.{ℕ, List, max}
-use Rattle.lt_definitions.specs.Types.{Chars, TypeTree, row}
+use Rattle.std.specs.Prelude.{ℕ, max}
+use Rattle.lt_definitions.specs.Types.{row}
 use Rattle.lt_nameless.specs.Nameless.{Nameless, nameless_free, nameless_bound, nameless_loose, nameless_constant, nameless_application, nameless_abstraction}
-use Rattle.lt_types.specs.TypeVariables.{longest_name, longest_variable, longest_in}
+use Rattle.lt_types.specs.TypeVariables.{longest_variable, longest_in}
 
 -- the greatest length of a term's type variables; 0 where it has none
 abbrev pub longest_type_variable : Nameless → ℕ
@@ -15,7 +15,3 @@ longest_type_variable (nameless_application f a) =
     max (longest_type_variable f) (longest_type_variable a)
 longest_type_variable (nameless_abstraction ty b) =
     max (longest_variable ty) (longest_type_variable b)
-
--- the greatest length of these names, and of the variables of these types, and at least 1
-abbrev pub longest_of : List Chars → List TypeTree → ℕ
-longest_of names types = max 1 (max (longest_name names) (longest_in (row types)))

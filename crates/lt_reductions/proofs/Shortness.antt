@@ -1,12 +1,11 @@
 -- Steps bring no new free variables; so a term whose free variables are short has as many nodes over a floor as it has.
-use Rattle.std.proofs.Common.{◌≡◌, ℕ, zero, suc, ◌+◌, ◌<◌, ◌≤◌, length, Bool, true, false, if◌then◌else◌, nat_eq, nat_lt, Option, Some, None, Err, refl, sym, ◌∙◌, ap, subst, arith}
+use Rattle.std.proofs.Common.{◌≡◌, ℕ, zero, suc, ◌+◌, length, Bool, true, false, if◌then◌else◌, nat_eq, nat_lt, Option, Some, None, Err, refl, ◌∙◌, ap}
 use Rattle.std.proofs.lemmas.Bool.{cond-false}
 use Rattle.std.specs.Option.{option_map}
 use Rattle.lt_definitions.specs.Types.{TypeTree, type_nodes}
 use Rattle.lt_nameless.specs.Nameless.{Nameless, nameless_free, nameless_bound, nameless_loose, nameless_constant, nameless_application, nameless_abstraction}
-use Rattle.lt_reductions.specs.Reducts.{lifted, before, put, is_abstraction, in_parts, reduct, nodes, nodes_over, IsShort, checked, normal_from}
+use Rattle.lt_reductions.specs.Reducts.{lifted, before, put, in_parts, reduct, nodes, nodes_over, IsShort, checked, normal_from}
 use Rattle.lt_reductions.proofs.Putting.{less-not}
-use Rattle.lt_reductions.proofs.Reducing.{reduct-apart}
 
 index-short : (n : ℕ) (b : Bool) (i j : ℕ) → IsShort n (if b then nameless_bound i else nameless_bound j)
 index-short n true i j = tt
@@ -75,10 +74,10 @@ pub short-limits : (floor left most k : ℕ) (t : Nameless) → IsShort floor t 
 short-limits floor zero most k t h = ap (λ n. checked (nat_lt most n) k t (reduct t) (λ u. Err k)) (short-nodes floor t h)
 short-limits floor (suc left) most k t h =
     ap (λ n. checked (nat_lt most n) k t (reduct t) (λ u. normal_from (nodes_over floor) left most (suc k) u)) (short-nodes floor t h)
-    ∙ behind (nat_lt most (nodes t)) (reduct t) (step-short floor t h)
+    ∙ behind (λ u m. short-limits floor left most (suc k) u m) (nat_lt most (nodes t)) (reduct t) (step-short floor t h)
   where
-    behind : (b : Bool) (o : Option Nameless) → MayBeShort floor o
+    behind : ((u : Nameless) → IsShort floor u → normal_from (nodes_over floor) left most (suc k) u ≡ normal_from nodes left most (suc k) u) → (b : Bool) (o : Option Nameless) → MayBeShort floor o
         → checked b k t o (λ u. normal_from (nodes_over floor) left most (suc k) u) ≡ checked b k t o (λ u. normal_from nodes left most (suc k) u)
-    behind true o m = refl
-    behind false None m = refl
-    behind false (Some u) m = short-limits floor left most (suc k) u m
+    behind on true o m = refl
+    behind on false None m = refl
+    behind on false (Some u) m = on u m

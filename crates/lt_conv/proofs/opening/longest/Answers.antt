@@ -1,6 +1,6 @@
 use Rattle.lt_conv.specs.Conversions.{node_length}
 use Rattle.lt_store.specs.Views.{node_of}
-use Rattle.lt_conv.proofs.Counting.{turn-taken, turn-smaller, turn-below, still-short, at-most-left, at-most-right}
+use Rattle.lt_conv.proofs.NodeTotals.{turn-taken, turn-smaller, turn-below, still-short, at-most-left, at-most-right}
 use Rattle.lt_conv.proofs.opening.longest.Goals as goal
 
 pub view-view-requires : goal.view-view-requires

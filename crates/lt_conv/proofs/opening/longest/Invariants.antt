@@ -1,7 +1,7 @@
 use Rattle.std.proofs.Common.{ℕ, ◌≤◌, length}
 use Rattle.lt_store.specs.Trees.{tree_at}
-use Rattle.lt_conv.specs.Conversions.{IsShort}
-use Rattle.lt_conv.proofs.Counting.{total, Below, AllShort}
+use Rattle.lt_reductions.specs.Reducts.{IsShort}
+use Rattle.lt_conv.proofs.NodeTotals.{total, Below, AllShort}
 use Rattle.lt_conv.proofs.opening.longest.Given as goal
 
 abbrev pub invariant-loop-id : goal.invariant-loop-id
@@ -13,4 +13,4 @@ invariant-loop-id g l =
     }
 
 abbrev pub decreases-loop-id : goal.decreases-loop-id
-decreases-loop-id g l = total (g.S.TermStore.nodes l.store) l.todo.items
+decreases-loop-id g l = total 0 (g.S.TermStore.nodes l.store) l.todo.items

@@ -1,12 +1,7 @@
-use Rattle.std.proofs.Common.{◌∙◌, sym, ap, length}
-use Rattle.std.specs.Option.{option_map}
-use Rattle.std.proofs.lemmas.List.{length-map}
+use Rattle.std.proofs.Common.{◌∙◌, ap}
 use Rattle.lt_definitions.specs.Types.{row}
 use Rattle.lt_definitions.specs.Typing.{types_fault}
-use Rattle.lt_definitions.specs.Rules.{line_at}
-use Rattle.lt_kernel.specs.State.{sequents}
-use Rattle.lt_programs.specs.Programs.{put_each, paired}
-use Rattle.lt_derived.proofs.Replaced.{variables-sound, length-long, put-renamed}
+use Rattle.lt_derived.proofs.Replaced.{variables-sound}
 use Rattle.lt_derived.proofs.putting.put_renamed.Goals as goal
 
 pub put_each-requires-clause-count : goal.put_each-requires-clause-count

@@ -1,9 +1,9 @@
-use Rattle.std.proofs.Common.{get_or, length, sym, ◌∙◌, arith}
+use Rattle.std.proofs.Common.{sym, ◌∙◌, arith}
 use Rattle.lt_definitions.specs.Rules.{line_at}
 use Rattle.lt_kernel.specs.State.{sequents}
 use Rattle.lt_kernel.proofs.ReachingLemmas.{begins, lacks}
 use Rattle.lt_programs.specs.Programs.{detached_by}
-use Rattle.lt_derived.proofs.Repeated.{some-of, none-of, by-next, by-fails, by-ends, by-lacks}
+use Rattle.lt_derived.proofs.Repeated.{some-of, none-of, by-next, by-fails}
 use Rattle.lt_derived.proofs.repeating.chain.Goals as goal
 
 pub returns-then-not-is_line-clause-reaches : goal.returns-then-not-is_line-clause-reaches

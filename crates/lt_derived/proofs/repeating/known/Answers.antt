@@ -1,4 +1,4 @@
-use Rattle.std.proofs.Common.{get_or, length, sym, ◌∙◌, arith}
+use Rattle.std.proofs.Common.{sym, ◌∙◌}
 use Rattle.lt_kernel.specs.State.{sequents}
 use Rattle.lt_derived.proofs.Repeated.{known-more, missing-at, missing-none}
 use Rattle.lt_derived.proofs.repeating.known.Goals as goal

@@ -1,4 +1,4 @@
-use Rattle.std.proofs.Common.{get_or, length, sym, ◌∙◌}
+use Rattle.std.proofs.Common.{get_or, sym, ◌∙◌}
 use Rattle.lt_definitions.specs.Rules.{line_at}
 use Rattle.lt_store.specs.Trees.{trees}
 use Rattle.lt_kernel.specs.State.{sequents}

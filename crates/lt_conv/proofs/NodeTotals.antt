@@ -1,31 +1,31 @@
 -- Nodes of terms that are still to be counted.
-use Rattle.std.proofs.Common.{◌≡◌, ℕ, suc, ◌+◌, ◌<◌, ◌≤◌, List, [], ◌∷◌, ◌++◌, length, replicate, max, Option, Some, inl, inr, false, ◌&&◌, ◌||◌, refl, sym, ap, ◌∙◌, subst, arith}
-use Rattle.std.specs.Option.{option_to_list}
-use Rattle.std.proofs.lemmas.List.{length-replicate, length-append}
+use Rattle.std.proofs.Common.{◌≡◌, ℕ, suc, ◌+◌, ◌<◌, ◌≤◌, List, [], ◌∷◌, ◌++◌, length, replicate, max, min, ◌-◌, Bool, true, if◌then◌else◌, nat_lt, inl, inr, false, ◌&&◌, ◌||◌, refl, sym, ap, ◌∙◌, subst, arith}
+use Rattle.std.proofs.lemmas.List.{length-replicate}
 use Rattle.std.proofs.lemmas.Bool.{cases_Bool, and_parts}
-use Rattle.lt_definitions.specs.Types.{Chars, same_name, TypeTree, same_type}
+use Rattle.lt_definitions.specs.Types.{Chars, same_name, TypeTree, same_type, type_nodes}
 use Rattle.lt_nameless.specs.Nameless.{Nameless, nameless_free, nameless_bound, nameless_loose, nameless_constant, nameless_application, nameless_abstraction}
 use Rattle.lt_nameless.specs.NamelessRules.{nameless_has_free}
 use Rattle.lt_definitions.proofs.SameNames.{name-true}
 use Rattle.lt_store.specs.declared.node.Node.{Node}
 use Rattle.lt_store.specs.declared.node.Node.TheVariants as node
 use Rattle.lt_store.specs.Trees.{tree_at, node_tree, IsBelow}
-use Rattle.lt_reductions.specs.Reducts.{nodes}
-use Rattle.lt_reductions.proofs.Placing.{nodes-positive}
-use Rattle.lt_conv.specs.Conversions.{child_ids, node_length, IsShort}
+use Rattle.lt_reductions.specs.Reducts.{nodes_over, IsShort}
+use Rattle.lt_conv.specs.Conversions.{node_length, node_count}
+use Rattle.lt_derived.specs.NodeTypes.{child_ids}
 
-abbrev pub total : List Node → List ℕ → ℕ
-total ns [] = 0
-total ns (i ∷ is) = nodes (tree_at ns i) + total ns is
+-- how many nodes these terms have together
+abbrev pub total : ℕ → List Node → List ℕ → ℕ
+total floor ns [] = 0
+total floor ns (i ∷ is) = nodes_over floor (tree_at ns i) + total floor ns is
 
 -- each is below
 abbrev pub Below : ℕ → List ℕ → Type 0
 Below n [] = Unit {0}
 Below n (i ∷ is) = (i < n) × Below n is
 
-pub total-append : (ns : List Node) (xs ys : List ℕ) → total ns (xs ++ ys) ≡ total ns xs + total ns ys
-total-append ns [] ys = omega arith
-total-append ns (x ∷ xs) ys = let h = total-append ns xs ys in omega (arith, h)
+pub total-append : (floor : ℕ) (ns : List Node) (xs ys : List ℕ) → total floor ns (xs ++ ys) ≡ total floor ns xs + total floor ns ys
+total-append floor ns [] ys = omega arith
+total-append floor ns (x ∷ xs) ys = let h = total-append floor ns xs ys in omega (arith, h)
 
 below-append : (n : ℕ) (xs ys : List ℕ) → Below n xs → Below n ys → Below n (xs ++ ys)
 below-append n [] ys h k = k
@@ -39,12 +39,23 @@ below-last : (n : ℕ) (xs : List ℕ) (y : ℕ) → Below n (xs ++ y ∷ []) �
 below-last n [] y h = h.0
 below-last n (x ∷ xs) y h = below-last n xs y h.1
 
-child-total : (ns : List Node) (n : Node) → nodes (node_tree ns n) ≡ suc (total ns (child_ids n))
-child-total ns (node.Free x t) = omega arith
-child-total ns (node.Bound i) = omega arith
-child-total ns (node.Const x ts) = omega arith
-child-total ns (node.App f a) = omega arith
-child-total ns (node.Lam t b) = omega arith
+child-total : (floor : ℕ) (ns : List Node) (n : Node) → nodes_over floor (node_tree ns n) ≡ node_count floor n + total floor ns (child_ids n)
+child-total floor ns (node.Free x t) = omega arith
+child-total floor ns (node.Bound i) = omega arith
+child-total floor ns (node.Const x ts) = omega arith
+child-total floor ns (node.App f a) = omega arith
+child-total floor ns (node.Lam t b) = omega arith
+
+count-positive : (floor : ℕ) (n : Node) → 1 ≤ node_count floor n
+count-positive floor (node.Free x t) = either (nat_lt floor (length x))
+  where
+    either : (c : Bool) → 1 ≤ (if c then 1 else 1 + type_nodes t)
+    either true = omega arith
+    either false = omega arith
+count-positive floor (node.Bound i) = omega arith
+count-positive floor (node.Const x ts) = omega arith
+count-positive floor (node.App f a) = omega arith
+count-positive floor (node.Lam t b) = omega arith
 
 child-below : (l i : ℕ) (n : Node) → i < l → IsBelow i n → Below l (child_ids n)
 child-below l i (node.Free x t) w h = tt
@@ -53,31 +64,33 @@ child-below l i (node.Const x ts) w h = tt
 child-below l i (node.App f a) w h = let p = h.0 in let q = h.1 in (omega (arith, w, p), (omega (arith, w, q), tt))
 child-below l i (node.Lam t b) w h = (omega (arith, w, h), tt)
 
-module _ (ns : List Node) (items rest : List ℕ) (id seen most whole : ℕ) (below : Below (length ns) items) (counted : seen + total ns items ≡ whole) (few : seen ≤ most) (was : items ≡ rest ++ id ∷ []) where
-  split : total ns items ≡ total ns rest + nodes (tree_at ns id)
-  split = let h = ap (total ns) was ∙ total-append ns rest (id ∷ []) in omega (arith, h)
+module _ (floor : ℕ) (ns : List Node) (items rest : List ℕ) (id seen most whole : ℕ) (below : Below (length ns) items) (counted : seen + total floor ns items ≡ whole) (few : seen ≤ most) (was : items ≡ rest ++ id ∷ []) where
+  split : total floor ns items ≡ total floor ns rest + nodes_over floor (tree_at ns id)
+  split = let h = ap (total floor ns) was ∙ total-append floor ns rest (id ∷ []) in omega (arith, h)
 
   pub taken : id < length ns
   taken = below-last (length ns) rest id (subst (Below (length ns)) was below)
 
-  pub too-many : seen ≡ most → most < whole
-  too-many e = let h = split in let p = nodes-positive (tree_at ns id) in omega (arith, h, p, e, counted)
+  module _ (n : Node) (stands : tree_at ns id ≡ node_tree ns n) (inside : IsBelow id n) where
+    -- a node that is too many
+    pub too-many : (cap more : ℕ) → more ≡ min (node_count floor n) cap → most - seen < more → most < whole
+    too-many cap more e h = let s = split in let p = ap (nodes_over floor) stands ∙ child-total floor ns n in omega (arith, s, p, e, h, counted)
 
-  module _ (n : Node) (next : List ℕ) (new : next ≡ rest ++ child_ids n) (stands : tree_at ns id ≡ node_tree ns n) (inside : IsBelow id n) where
-    one-less : total ns items ≡ suc (total ns next)
-    one-less =
-        let h = split in
-        let k = ap (total ns) new ∙ total-append ns rest (child_ids n) in
-        let p = ap nodes stands ∙ child-total ns n in omega (arith, h, k, p)
+    module _ (next : List ℕ) (new : next ≡ rest ++ child_ids n) where
+      one-less : total floor ns items ≡ node_count floor n + total floor ns next
+      one-less =
+          let h = split in
+          let k = ap (total floor ns) new ∙ total-append floor ns rest (child_ids n) in
+          let p = ap (nodes_over floor) stands ∙ child-total floor ns n in omega (arith, h, k, p)
 
-    pub smaller : suc (total ns next) ≤ total ns items
-    smaller = let h = one-less in omega (arith, h)
+      pub smaller : suc (total floor ns next) ≤ total floor ns items
+      smaller = let h = one-less in let p = count-positive floor n in omega (arith, h, p)
 
-    pub still-counted : seen + 1 + total ns next ≡ whole
-    still-counted = let h = one-less in omega (arith, h, counted)
+      pub still-counted : (cap more : ℕ) → most < cap → more ≡ min (node_count floor n) cap → more ≤ most - seen → seen + more + total floor ns next ≡ whole
+      still-counted cap more c e l = let h = one-less in omega (arith, h, counted, c, e, l)
 
-    pub still-below : Below (length ns) next
-    still-below = subst (Below (length ns)) (sym new) (below-append (length ns) rest (child_ids n) (below-first (length ns) rest (id ∷ []) (subst (Below (length ns)) was below)) (child-below (length ns) id n taken inside))
+      pub still-below : Below (length ns) next
+      still-below = subst (Below (length ns)) (sym new) (below-append (length ns) rest (child_ids n) (below-first (length ns) rest (id ∷ []) (subst (Below (length ns)) was below)) (child-below (length ns) id n taken inside))
 
 -- ---- the lengths of names
 
@@ -124,14 +137,14 @@ short-new n ty (nameless_abstraction u b) h = short-new n ty b h
 
 -- a turn that doesn't count
 pub turn-taken : (ns : List Node) (items rest : List ℕ) (id : ℕ) → Below (length ns) items → items ≡ rest ++ id ∷ [] → id < length ns
-turn-taken ns items rest id b was = taken ns items rest id 0 0 (0 + total ns items) b refl (omega arith) was
+turn-taken ns items rest id b was = taken 0 ns items rest id 0 0 (0 + total 0 ns items) b refl (omega arith) was
 
 pub turn-smaller : (ns : List Node) (items rest next : List ℕ) (id : ℕ) (v : Node) → Below (length ns) items → items ≡ rest ++ id ∷ [] → next ≡ rest ++ child_ids v → tree_at ns id ≡ node_tree ns v → IsBelow id v
-    → suc (total ns next) ≤ total ns items
-turn-smaller ns items rest next id v b was new stands below = smaller ns items rest id 0 0 (0 + total ns items) b refl (omega arith) was v next new stands below
+    → suc (total 0 ns next) ≤ total 0 ns items
+turn-smaller ns items rest next id v b was new stands below = smaller 0 ns items rest id 0 0 (0 + total 0 ns items) b refl (omega arith) was v stands below next new
 
 pub turn-below : (ns : List Node) (items rest next : List ℕ) (id : ℕ) (v : Node) → Below (length ns) items → items ≡ rest ++ id ∷ [] → next ≡ rest ++ child_ids v → tree_at ns id ≡ node_tree ns v → IsBelow id v → Below (length ns) next
-turn-below ns items rest next id v b was new stands below = still-below ns items rest id 0 0 (0 + total ns items) b refl (omega arith) was v next new stands below
+turn-below ns items rest next id v b was new stands below = still-below 0 ns items rest id 0 0 (0 + total 0 ns items) b refl (omega arith) was v stands below next new
 
 pub at-most-left : (a b r n : ℕ) → r ≡ max a b → r ≤ n → a ≤ n
 at-most-left a b r n e h = omega (arith, e, h)
@@ -139,11 +152,13 @@ at-most-left a b r n e h = omega (arith, e, h)
 pub at-most-right : (a b c r n : ℕ) → r ≡ max a b → b ≡ c → r ≤ n → c ≤ n
 at-most-right a b c r n e d h = omega (arith, e, d, h)
 
--- the only name
-pub only : (names rest : List Chars) (o : Option Chars) (x y : Chars) → names ≡ y ∷ [] → names ≡ rest ++ option_to_list o → o ≡ Some x → x ≡ y
-only names [] o x y e d s = cc (sym (ap option_to_list s) ∙ sym d ∙ e)
-only names (z ∷ rest) o x y e d s =
-    let h = ap length (sym e ∙ d ∙ ap (λ p. (z ∷ rest) ++ option_to_list p) s) in let k = length-append rest (x ∷ []) in absurd (omega (arith, h, k))
-
 pub new-is : (n : ℕ) (ty : TypeTree) (t : Nameless) (x : Chars) → x ≡ replicate (suc n) 116 → IsShort n t → nameless_has_free x ty t ≡ false
 new-is n ty t x e h = ap (λ y. nameless_has_free y ty t) e ∙ short-new n ty t h
+
+pub shorter : (n m : ℕ) (t : Nameless) → n ≤ m → IsShort n t → IsShort m t
+shorter n m (nameless_free x ty) l h = omega (arith, l, h)
+shorter n m (nameless_bound i) l h = tt
+shorter n m (nameless_loose x) l h = tt
+shorter n m (nameless_constant c ts) l h = tt
+shorter n m (nameless_application f a) l h = (shorter n m f l h.0, shorter n m a l h.1)
+shorter n m (nameless_abstraction ty b) l h = shorter n m b l h
