@@ -43,9 +43,17 @@ pub starts : (s : State) (t : Nameless) (floor line size : ℕ) (frames : List F
 unfolding normal_form_of
 starts s t floor line size frames short k e h is = (
   record {
-    start = t; focus = t; around = []; left = 10000; here = k;
+    start = t;
+    focus = t;
+    around = [];
+    left = 10000;
+    here = k;
     levels = subst (λ fs. Levels s fs [] t t) (sym is) refl;
-    way = tt; done = tt; counted = e; small = h; few = refl;
+    way = tt;
+    done = tt;
+    counted = e;
+    small = h;
+    few = refl;
     rest = short-limits floor 10000 65536 0 t short;
   },
   (omega (arith, e), omega (arith, h)),

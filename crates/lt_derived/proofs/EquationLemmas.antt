@@ -1,5 +1,5 @@
 -- Rules over lines that equate terms.
-use Rattle.std.proofs.Common.{◌≡◌, ℕ, [], is_ok, is_some, true, Option, Ok, Some, None, refl, sym, ◌∙◌, ap, subst, arith}
+use Rattle.std.proofs.Common.{◌≡◌, ℕ, ◌<◌, [], ◌∷◌, length, codes, is_ok, is_some, true, Option, Ok, Some, None, refl, sym, ◌∙◌, ap, subst, arith}
 use Rattle.std.specs.Option.{option_map}
 use Rattle.std.specs.Result.{result_unwrap_or}
 use Rattle.lt_definitions.specs.Types.{Chars, TypeTree, bool, fun}
@@ -7,7 +7,7 @@ use Rattle.lt_definitions.specs.Typing.{Signature, type_fault}
 use Rattle.lt_definitions.specs.Rules.{line_at, joined_type}
 use Rattle.lt_definitions.proofs.RuleLemmas.{found-on}
 use Rattle.lt_definitions.proofs.TypingLemmas.{typed-some, joined-fun}
-use Rattle.lt_nameless.specs.Nameless.{Nameless, nameless_application, nameless_abstraction}
+use Rattle.lt_nameless.specs.Nameless.{Nameless, nameless_constant, nameless_application, nameless_abstraction}
 use Rattle.lt_nameless.specs.NamelessRules.{NamelessOutcome, nameless_typed, nameless_fault, nameless_equation, nameless_beta, abstracted, nameless_refl_gives, nameless_beta_gives, nameless_sym_gives, nameless_trans_gives, nameless_cong_gives, nameless_abs_gives}
 use Rattle.lt_nameless.proofs.SameForms.{same-refl}
 use Rattle.lt_nameless.proofs.NamelessRuleLemmas.{sym-gives, trans-gives, cong-gives, abs-gives}
@@ -119,7 +119,7 @@ module _ (old : State) where
       let joined : joined_type q.functions.ty q.arguments.ty ≡ Some u.0 = (λ k. joined_type (ft k) (at k)) ∙ joined-fun p.0 u.0 in (
         u.0,
         cong-gives (sequents old) i j (theorem (nameless_equation q.functions.ty q.f q.g)) (theorem (nameless_equation q.arguments.ty q.a q.b))
-        q.functions.line q.arguments.line q.functions.ty q.f q.g q.arguments.ty q.a q.b u.0 refl refl joined,
+            q.functions.line q.arguments.line q.functions.ty q.f q.g q.arguments.ty q.a q.b u.0 refl refl joined,
         u.1,
         application-of sig q.g q.b p.0 u.0 (subst (IsOfType sig q.g) ft q.functions.right) (subst (IsOfType sig q.b) at q.arguments.right),
       )
@@ -171,3 +171,15 @@ equation-concl s n q t e = same-concl (sym e ∙ ap (option_map (λ v. v.concl))
 -- a term that has a type
 pub stands-typed : (s : State) (id : ℕ) (t : Nameless) (ty : TypeTree) → Stands s id t → IsOfType s.signature t ty → IsTyped s.signature s.nodes id
 stands-typed s id t ty k e = record { within = k.within; typed = ap (nameless_fault s.signature) k.is ∙ of-sound s.signature t ty e }
+
+-- the right side of a line
+pub right-stands : (s : State) (n concl f to : ℕ) (q : IsEquation s n) → option_map (λ v. v.concl) (line_at (sequents s) n) ≡ Some (tree_at s.nodes concl)
+    → to < length s.nodes → tree_at s.nodes concl ≡ nameless_application (tree_at s.nodes f) (tree_at s.nodes to) → Stands s to q.to
+right-stands s n concl f to q e w d = record {
+  within = w;
+  is = argument (tree_at s.nodes f) (tree_at s.nodes to) (nameless_application (nameless_constant (codes "eq") (q.holds.ty ∷ [])) q.from) q.to
+      (sym d ∙ equation-concl s n q (tree_at s.nodes concl) e);
+}
+  where
+    argument : (f a g b : Nameless) → nameless_application f a ≡ nameless_application g b → a ≡ b
+    argument f a g b h = cc h

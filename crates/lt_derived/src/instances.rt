@@ -36,7 +36,14 @@ pub fn instance<S: TermStore>(
 {
     let names = names_of(alloc, types)?;
     let types = types_of(alloc, types)?;
-    match instance_at(alloc, proof, label, names.as_slice(), types.as_slice(), terms) {
+    match instance_at(
+        alloc,
+        proof,
+        label,
+        names.as_slice(),
+        types.as_slice(),
+        terms,
+    ) {
         Ok(number) => Ok(number),
         Err(fault) => Err(fault),
     }

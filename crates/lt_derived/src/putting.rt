@@ -12,7 +12,9 @@ ghost use Rattle.lt_programs.specs.Programs.{theorem, put_each, paired};
 ghost use Rattle.lt_programs.specs.TypeLengths.{longest_type_variable};
 
 use crate::type_lengths::longest_type_variable;
-use lt_hol::{Memory, Name, Names, TryCopy, Ty, TyMap, Tys, are_clear, long_names, longest, variables};
+use lt_hol::{
+    Memory, Name, Names, TryCopy, Ty, TyMap, Tys, are_clear, long_names, longest, variables,
+};
 use lt_kernel::Proof;
 use lt_kernel::sure::tinst;
 use lt_store::TermStore;

@@ -176,8 +176,13 @@ module _ (sig : Signature) (t0 : TermTree) (ty : TypeTree) (h0 : HasType sig [] 
     is-few e = not-more 65536 (nodes n) e
 
     is-normal : nat_lt 65536 (nodes n) ≡ false → reduct n ≡ None → IsNormalForm t0 t
-    is-normal e d = (k, chain-leads k t0 t c, sym (redex-same [] t) ∙ ap is_some d,
-        none-passes k t c (is-few e) (λ q. d) t (chain-leads k t0 t c), before)
+    is-normal e d = (
+      k,
+      chain-leads k t0 t c,
+      sym (redex-same [] t) ∙ ap is_some d,
+      none-passes k t c (is-few e) (λ q. d) t (chain-leads k t0 t c),
+      before,
+    )
 
     has-step : (m : Nameless) → reduct n ≡ Some m → has_redex t ≡ true
     has-step m d = sym (redex-same [] t) ∙ ap is_some d
