@@ -69,7 +69,7 @@ abbrev variable : TermTree → Chars
 variable t = replicate (suc (reach t)) 120
 
 variable-absent : (ty : TypeTree) (t : TermTree) → has_free (variable t) ty t ≡ false
-variable-absent ty t = let l = length-replicate (suc (reach t)) 120 in longer-absent (variable t) ty t (omega (arith, l))
+variable-absent ty t = let l = length-replicate {A = ℕ} (suc (reach t)) 120 in longer-absent (variable t) ty t (omega (arith, l))
 
 -- opening by a variable keeps what bounds the recursion
 abbrev size : TermTree → ℕ
