@@ -1,7 +1,7 @@
 //! Repeated rules and instances.
 use crate::terms::{empty, implies, put, variable};
 use lt_derived::{chain, instance, spec};
-use lt_hol::{Name, Reason, TyMap, Ty};
+use lt_hol::{Name, Reason, Ty, TyMap};
 use lt_kernel::{Proof, RuleFault};
 use lt_store::{PlainStore, TermStore};
 use std::alloc::Global;

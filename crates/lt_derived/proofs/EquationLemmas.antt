@@ -11,6 +11,7 @@ use Rattle.lt_nameless.specs.Nameless.{Nameless, nameless_constant, nameless_app
 use Rattle.lt_nameless.specs.NamelessRules.{NamelessOutcome, nameless_typed, nameless_fault, nameless_equation, nameless_beta, abstracted, nameless_refl_gives, nameless_beta_gives, nameless_sym_gives, nameless_trans_gives, nameless_cong_gives, nameless_abs_gives}
 use Rattle.lt_nameless.proofs.SameForms.{same-refl}
 use Rattle.lt_nameless.proofs.NamelessRuleLemmas.{sym-gives, trans-gives, cong-gives, abs-gives}
+use Rattle.lt_store.specs.Trees.{tree_at}
 use Rattle.lt_store.specs.Typed.{IsTyped}
 use Rattle.lt_store.proofs.TreeLemmas.{tree_at-extends}
 use Rattle.lt_kernel.specs.State.{State, sequents}

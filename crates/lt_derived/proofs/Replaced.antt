@@ -1,9 +1,10 @@
 -- Types put in lines.
-use Rattle.std.proofs.Common.{◌≡◌, ℕ, zero, suc, ◌+◌, ◌<◌, ◌≤◌, List, [], ◌∷◌, length, map, get_or, drop, drop-cons, add-one, max, Bool, true, false, ◌||◌, not, is_some, is_ok, Option, Some, None, refl, sym, ◌∙◌, ap, subst, arith}
+use Rattle.std.proofs.Common.{◌≡◌, ℕ, zero, suc, ◌+◌, ◌<◌, ◌≤◌, List, [], ◌∷◌, length, map, get_or, take, drop, drop-cons, add-one, ◌++◌, slice_get, max, Bool, true, false, ◌||◌, not, is_some, is_ok, Option, Some, None, refl, sym, ◌∙◌, ap, subst, arith}
 use Rattle.std.specs.Option.{option_map}
 use Rattle.std.specs.List.{list_all}
 use Rattle.std.proofs.lemmas.Bool.{true≢false, and_parts, and_from}
 use Rattle.std.proofs.lemmas.List.{length-map}
+use Rattle.std.proofs.lemmas.Option.{same_Some, slice_get_within}
 use Rattle.lt_definitions.specs.Types.{Chars, has_name, same_name, TypeTree, TypeTrees, type_variable, type_constructor, no_types, type_and, TypeMap, row}
 use Rattle.lt_definitions.specs.Typing.{Signature, type_fault, types_fault}
 use Rattle.lt_definitions.specs.Rules.{line_at}
@@ -71,9 +72,19 @@ pub variables-sound : (sig : Signature) (ns : List Chars) → types_fault sig (r
 variables-sound sig [] = refl
 variables-sound sig (n ∷ ns) = variables-sound sig ns
 
-pub length-long : (l k : ℕ) → length (long_names l k) ≡ k
+length-long : (l k : ℕ) → length (long_names l k) ≡ k
 length-long l zero = refl
 length-long l (suc k) = ap suc (length-long (suc l) k)
+
+pub as-many-variables : (k : ℕ) (ns new : List Chars) (vars : List TypeTree) → new ≡ long_names k (length ns) → vars ≡ map type_variable new → length ns ≡ length vars
+as-many-variables k ns new vars e d = sym (ap length d ∙ mapped new ∙ ap length e ∙ length-long k (length ns))
+  where
+    mapped : (xs : List Chars) → length (map type_variable xs) ≡ length xs
+    mapped [] = refl
+    mapped (x ∷ xs) = ap suc (mapped xs)
+
+pub as-many-new : (k : ℕ) (ns new : List Chars) (ts : List TypeTree) → new ≡ long_names k (length ns) → length ns ≡ length ts → length new ≡ length ts
+as-many-new k ns new ts e l = ap length e ∙ length-long k (length ns) ∙ l
 
 -- fewer names
 neither : (a b : Bool) → (a || b) ≡ false → b ≡ false
@@ -121,6 +132,15 @@ put-renamed k least ns new ts vars p o r q l m is vs short e d c =
     c ∙ ap (option_map (put_each (paired new ts))) (d ∙ ap (option_map (put_each (paired ns vars))) e)
     ∙ (λ i. Some (put_each (paired (is i) ts) (put_each (paired ns ((vs ∙ ap (map type_variable) is) i)) (theorem p))))
     ∙ ap (λ (s : NamelessSequent). Some s) (puts-renamed k ns ts p l (omega (arith, m)) (omega (arith, m)) (omega (arith, m, short)))
+
+-- one more thing of a list that is mapped
+pub mapped-more : {A B : Type 0} (f : A → B) (xs : List A) (k : ℕ) (x : A) → slice_get xs k ≡ Some x → map f (take (k + 1) xs) ≡ map f (take k xs) ++ f x ∷ []
+mapped-more f xs k x e = ap (λ m. map f (take m xs)) (add-one k) ∙ more f xs k x e
+  where
+    more : {A B : Type 0} (f : A → B) (xs : List A) (k : ℕ) (x : A) → slice_get xs k ≡ Some x → map f (take (suc k) xs) ≡ map f (take k xs) ++ f x ∷ []
+    more f [] k x e = let l = slice_get_within [] k x e in absurd (omega (arith, l))
+    more f (y ∷ xs) zero x e = ap (λ z. f z ∷ []) (same_Some y x e)
+    more f (y ∷ xs) (suc k) x e = ap (λ r. f y ∷ r) (more f xs k x e)
 
 -- a map by its names and types
 pub paired-parts : (m : TypeMap) → paired (map (λ p. p.0) m) (map (λ p. p.1) m) ≡ m

@@ -12,6 +12,7 @@ use Rattle.lt_store.specs.Trees.{trees, AllBelow}
 use Rattle.lt_store.specs.Typed.{IsTyped}
 use Rattle.lt_store.proofs.Lists.{trees-extends}
 use Rattle.lt_kernel.specs.declared.rule_fault.RuleFault.{RuleFault}
+use Rattle.lt_kernel.specs.declared.rule_fault.RuleFault.TheVariants.{Bad, Duplicate, Memory}
 use Rattle.lt_kernel.specs.State.{State, sequents, statements}
 use Rattle.lt_kernel.specs.Growing.{Carries}
 use Rattle.lt_kernel.specs.Reaching.{IsGiven, Reaches}
@@ -46,6 +47,12 @@ unstated sig named l copy m ts r same e = subst (λ (c : Chars). named_at sig na
         missing : with_found UnknownLabel None (λ (p : Nameless). Ok (theorem p)) ≡ Err r → with_found UnknownLabel None (statement_at sig m ts) ≡ Err r
         missing w = let same : UnknownLabel ≡ r = cc w in ap (λ (v : Reason). Err v) same
     by (Some p) d q = absurd (cc q)
+
+pub first-fails : (now next : State) (sig : Signature) (named : List (Chars × Nameless)) (l copy : Chars) (m : TypeMap) (ts : List Nameless) (e : RuleFault) → copy ≡ l
+    → Reaches now (Err e) (nameless_thm_gives named copy) → Reaches next (Err e) (named_at sig named l m ts)
+first-fails now next sig named l copy m ts (Bad r) same h = unstated sig named l copy m ts r same h
+first-fails now next sig named l copy m ts (Duplicate k) same h = absurd h
+first-fails now next sig named l copy m ts Memory same h = tt
 
 -- the whole, from what is known of each line
 pub instance-line : (old first mid : State) (l copy : Chars) (m : TypeMap) (ids : List ℕ) (n r : ℕ) → copy ≡ l → Carries old first → Carries first mid

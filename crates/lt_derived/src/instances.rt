@@ -36,17 +36,14 @@ pub fn instance<S: TermStore>(
 {
     let names = names_of(alloc, types)?;
     let types = types_of(alloc, types)?;
-    match instance_at(
+    instance_at(
         alloc,
         proof,
         label,
         names.as_slice(),
         types.as_slice(),
         terms,
-    ) {
-        Ok(number) => Ok(number),
-        Err(fault) => Err(fault),
-    }
+    )
 }
 
 /// The same, with the names and their types side by side.
@@ -72,8 +69,5 @@ pub fn instance_at<S: TermStore>(
         Err(fault) => return Err(fault),
     };
     let line = put_at_once(alloc, proof, law, names, types)?;
-    match spec(alloc, proof, line, terms) {
-        Ok(number) => Ok(number),
-        Err(fault) => Err(fault),
-    }
+    spec(alloc, proof, line, terms)
 }

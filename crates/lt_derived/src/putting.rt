@@ -115,24 +115,24 @@ pub(crate) fn put_at_once<S: TermStore>(
 }
 
 /// The names of a map's pairs.
-pub(crate) fn names_of(alloc: Global, map: &TyMap) -> Result<Names, Memory>
-    ensures { IfOk result (λ names. names ≡ map (λ p. p.0) map.now) }
+pub(crate) fn names_of(alloc: Global, pairs: &TyMap) -> Result<Names, Memory>
+    ensures { IfOk result (λ names. names ≡ map (λ p. p.0) pairs.now) }
 {
     let mut names = Names::new(alloc);
-    for i in 0..map.len() {
-        let (name, _) = map.at(i);
+    for i in 0..pairs.len() {
+        let (name, _) = pairs.at(i);
         names.push(alloc, name.copy(alloc)?)?;
     }
     Ok(names)
 }
 
 /// The types of a map's pairs.
-pub(crate) fn types_of(alloc: Global, map: &TyMap) -> Result<Tys, Memory>
-    ensures { IfOk result (λ types. types ≡ map (λ p. p.1) map.now) }
+pub(crate) fn types_of(alloc: Global, pairs: &TyMap) -> Result<Tys, Memory>
+    ensures { IfOk result (λ types. types ≡ map (λ p. p.1) pairs.now) }
 {
     let mut types = Tys::new(alloc);
-    for i in 0..map.len() {
-        let (_, ty) = map.at(i);
+    for i in 0..pairs.len() {
+        let (_, ty) = pairs.at(i);
         types.push(alloc, ty.copy(alloc)?)?;
     }
     Ok(types)

@@ -1,4 +1,4 @@
-use Rattle.std.proofs.Common.{sym, ◌∙◌, ap}
+use Rattle.std.proofs.Common.{ap}
 use Rattle.lt_store.specs.Trees.{tree_at}
 use Rattle.lt_formulas.specs.Shapes.{is_application}
 use Rattle.lt_derived.proofs.EquationLemmas.{equation-there, equation-concl, right-stands}

@@ -1,9 +1,10 @@
-use Rattle.std.proofs.Common.{sym, ◌∙◌, arith}
+use Rattle.std.proofs.Common.{◌≡◌, ℕ, drop, sym, ◌∙◌, subst, arith}
 use Rattle.lt_definitions.specs.Rules.{line_at}
 use Rattle.lt_kernel.specs.State.{sequents}
 use Rattle.lt_kernel.proofs.ReachingLemmas.{begins, lacks}
 use Rattle.lt_programs.specs.Programs.{detached_by}
-use Rattle.lt_derived.proofs.Repeated.{some-of, none-of, by-next, by-fails}
+use Rattle.lt_derived.specs.Premises.{IsMissing}
+use Rattle.lt_derived.proofs.Repeated.{some-of, none-of, by-next, by-fails, by-ends, by-lacks}
 use Rattle.lt_derived.proofs.repeating.chain.Goals as goal
 
 pub returns-then-not-is_line-clause-reaches : goal.returns-then-not-is_line-clause-reaches
@@ -29,8 +30,13 @@ loop-k-preserved g c = record {
       c.known-known.ensures.known c.loop-k-test.true (omega (arith, c.loop-k-test.true, c.known-known.ensures.within)) c.loop-k.invariant.holds c.in-Ok.number c.in-Ok.ensures.reaches;
 }
 
-pub returns-then-known-lt-clause-reaches : goal.returns-then-known-lt-clause-reaches
-returns-then-known-lt-clause-reaches g c = ?
+pub returns-then-known-premises-clause-reaches : goal.returns-then-known-premises-clause-reaches
+returns-then-known-premises-clause-reaches g c =
+    let old = c.args.proof.now in
+    let all : c.known-known.result ≡ c.loop-k.k = omega (arith, c.loop-k-test.false, c.loop-k.auto.k-end) in
+    by-lacks old c.loop-k.proof c.args.premises.now c.loop-k.k c.loop-k.line _ (omega (arith, c.loop-k.auto.k-end, c.if-known-premises.true))
+    (subst (λ (m : ℕ). IsMissing (sequents old) (drop m c.args.premises.now)) all c.known-known.ensures.missing) c.loop-k.invariant.holds
 
-pub returns-else-known-lt-clause-reaches : goal.returns-else-known-lt-clause-reaches
-returns-else-known-lt-clause-reaches g c = ?
+pub returns-clause-reaches : goal.returns-clause-reaches
+returns-clause-reaches g c =
+    by-ends c.args.proof.now c.loop-k.proof c.args.premises.now c.loop-k.k c.loop-k.line _ (omega (arith, c.loop-k-test.false, c.if-known-premises.false)) c.loop-k.invariant.holds
