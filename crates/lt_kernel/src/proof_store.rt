@@ -7,7 +7,7 @@ ghost use Rattle.lt_kernel.specs.Growing.{Carries};
 
 use crate::proof::Proof;
 use lt_hol::{Memory, Name, Ty, Tys};
-use lt_store::{Id, TermStore, View};
+use lt_store::{Bounds, Id, TermStore, View};
 use std::alloc::Global;
 
 impl<S: TermStore> TermStore for Proof<S> {
@@ -19,6 +19,10 @@ impl<S: TermStore> TermStore for Proof<S> {
 
     fn view(&self, id: Id) -> View<'_> {
         self.store.view(id)
+    }
+
+    fn bounds(&self, id: Id) -> Option<Bounds> {
+        self.store.bounds(id)
     }
 
     fn mk_free(&mut self, alloc: Global, name: Name, ty: Ty) -> Result<Id, Memory>

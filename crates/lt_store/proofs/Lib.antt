@@ -12,3 +12,5 @@ pub mod TypeNumberLemmas
 pub mod TypeTaskLemmas
 pub mod BinderNames
 pub mod NameTaskLemmas
+pub mod BoundLemmas
+pub mod KnownTypeLemmas

@@ -1,8 +1,10 @@
 //! Stores of terms without binder names, and the passes over any store.
 #![tactic(auto)]
 
+mod bounds;
 mod change;
 mod image;
+mod known_type;
 mod last;
 mod memo;
 mod naming;
@@ -13,10 +15,13 @@ mod plain_store;
 mod same;
 mod storing;
 mod term_store;
+mod told;
 mod type_numbers;
 mod type_work;
 mod typing;
 
+pub use bounds::Bounds;
+pub use known_type::known_type;
 pub use naming::from_store;
 pub use node::{Id, Node, View};
 pub use passes::{

@@ -4,6 +4,7 @@ ghost use Rattle.lt_store.specs.declared.node.Node.{Node};
 ghost use Rattle.lt_store.specs.declared.node.Node.TheVariants.{Free, Bound, Const, App, Lam};
 ghost use Rattle.lt_store.specs.Trees.{Makes, Appends, IsBelow, Extends};
 
+use crate::bounds::Bounds;
 use crate::node::{Id, Node, View};
 use crate::same::is_same;
 use crate::term_store::TermStore;
@@ -68,6 +69,11 @@ impl TermStore for PlainStore {
 
     fn view(&self, id: Id) -> View<'_> {
         self.nodes[id].view()
+    }
+
+    /// None: nothing is kept beside the nodes.
+    fn bounds(&self, _id: Id) -> Option<Bounds> {
+        None
     }
 
     fn mk_free(&mut self, _alloc: Global, name: Name, ty: Ty) -> Result<Id, Memory>

@@ -1,10 +1,12 @@
 //! What a store of terms promises.
-ghost use Rattle.std.specs.Prelude.{◌≡◌, ◌<◌, ◌↔◌, List, length, Some, slice_get, IfOk, IsTrue};
+ghost use Rattle.std.specs.Prelude.{◌≡◌, ◌<◌, ◌↔◌, List, length, Some, slice_get, IfOk, IfSome, IsTrue};
 ghost use Rattle.lt_store.specs.declared.node.Node.{Node};
 ghost use Rattle.lt_store.specs.declared.node.Node.TheVariants.{Free, Bound, Const, App, Lam};
 ghost use Rattle.lt_store.specs.Trees.{Extends, Makes, IsBelow, node_tree, tree_at};
+ghost use Rattle.lt_store.specs.Bounds.{IsBounded};
 ghost use Rattle.lt_store.specs.Views.{node_of};
 
+use crate::bounds::Bounds;
 use crate::node::{Id, View};
 use lt_hol::{Memory, Name, Ty, Tys};
 use std::alloc::Global;
@@ -28,6 +30,12 @@ pub trait TermStore: Drop {
         ensures node { slice_get (nodes self.now) id ≡ Some (node_of result) }
         ensures below { IsBelow id (node_of result) }
         ensures stands { tree_at (nodes self.now) id ≡ node_tree (nodes self.now) (node_of result) };
+
+    /// What the store knows of the term of an id beside its node, so that a pass needn't go into
+    /// it; None where it knows nothing. It takes constant time.
+    fn bounds(&self, id: Id) -> Option<Bounds>
+        requires { id < length (nodes self.now) }
+        ensures { IfSome result (IsBounded (tree_at (nodes self.now) id)) };
 
     /// A free variable.
     fn mk_free(&mut self, alloc: Global, name: Name, ty: Ty) -> Result<Id, Memory>
