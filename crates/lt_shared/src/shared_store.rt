@@ -1,14 +1,15 @@
 //! A store that keeps each node once.
-ghost use Rattle.std.specs.Prelude.{◌≡◌, ◌<◌, ℕ, [], length, slice_get, Some, IfOk};
+ghost use Rattle.std.specs.Prelude.{◌≡◌, ◌<◌, ℕ, List, [], length, slice_get, Some, IfOk, IfSome};
 ghost use Rattle.lt_store.specs.declared.node.Node.{Node};
 ghost use Rattle.lt_store.specs.Bounds.{IsBounded, AreBounded};
+ghost use Rattle.lt_store.specs.Replaced.{AreReplaced, IsReplacing};
 ghost use Rattle.lt_store.specs.Trees.{Extends, IsBelow, IsGrounded, Makes, node_tree, tree_at};
 ghost use Rattle.lt_store.specs.Views.{node_of};
 ghost use Rattle.lt_shared.specs.Separate.{IsSeparate};
 
 use indexmap::IndexSet;
 use lt_hol::{Memory, Name, Ty, Tys};
-use lt_store::{Bounds, Id, Node, TermStore, View};
+use lt_store::{Bounds, Id, Memo, Node, Replacing, TermStore, View};
 use std::alloc::Global;
 use std::marker::Model;
 
@@ -17,17 +18,20 @@ use std::marker::Model;
 ///
 /// The bounds of each node's term stand beside it, so that a pass doesn't go into a term that it
 /// can't change. Where memory ran out between a node and its bounds, they are wanting from it on.
+/// What the last replacement of a free variable made is kept, too.
 #[derive(Debug, Drop)]
 pub struct SharedStore {
     nodes: IndexSet<Node>,
     bounds: Vec<Bounds>,
+    replaced: Option<Replacing>,
 }
 
 impl Model for SharedStore {
-    ghost use Rattle.std.specs.Prelude.{List};
+    ghost use Rattle.std.specs.Prelude.{List, IfSome};
     ghost use Rattle.lt_store.specs.declared.node.Node.{Node};
     ghost use Rattle.lt_store.specs.Trees.{IsGrounded};
     ghost use Rattle.lt_store.specs.Bounds.{AreBounded};
+    ghost use Rattle.lt_store.specs.Replaced.{IsReplacing};
     ghost use Rattle.lt_shared.specs.Separate.{IsSeparate};
 
     ghost Value = { List Node };
@@ -39,7 +43,7 @@ impl Model for SharedStore {
 
     ghost view = { λ s. s.nodes.keys };
 
-    ghost invariant = { λ s. record { grounded : IsGrounded s.nodes.keys; separate : IsSeparate s.nodes.keys; bounded : AreBounded s.nodes.keys s.bounds.items } };
+    ghost invariant = { λ s. record { grounded : IsGrounded s.nodes.keys; separate : IsSeparate s.nodes.keys; bounded : AreBounded s.nodes.keys s.bounds.items; replaced : IfSome s.replaced (IsReplacing s.nodes.keys) } };
 }
 
 impl SharedStore {
@@ -50,6 +54,7 @@ impl SharedStore {
         SharedStore {
             nodes: IndexSet::new(alloc),
             bounds: Vec::new(alloc),
+            replaced: None,
         }
     }
 
@@ -139,9 +144,33 @@ impl TermStore for SharedStore {
         self.add(Node::Lam(ty, body))
     }
 
+    fn take_replaced(&mut self, name: &Name, ty: &Ty, by: Id) -> Option<Memo> {
+        let last = self.replaced.take();
+        made_by(last, name, ty, by)
+    }
+
+    fn keep_replaced(&mut self, replacing: Replacing) {
+        self.replaced = Some(replacing);
+    }
+
     /// Whether the two ids are one, which takes constant time.
     fn same(&self, _alloc: Global, a: Id, b: Id) -> Result<bool, Memory> {
         let _ = &self.nodes;
         Ok(a == b)
+    }
+}
+
+/// What was made by a replacement, if it is this one.
+fn made_by(last: Option<Replacing>, name: &Name, ty: &Ty, by: Id) -> Option<Memo>
+    ensures { (ns : List Node) → IfSome last (IsReplacing ns)
+        → IfSome result (AreReplaced ns name.now ty.now by) }
+{
+    let Some(last) = last else {
+        return None;
+    };
+    if last.is_of(name, ty, by) {
+        Some(last.made)
+    } else {
+        None
     }
 }

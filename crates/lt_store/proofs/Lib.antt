@@ -14,3 +14,4 @@ pub mod BinderNames
 pub mod NameTaskLemmas
 pub mod BoundLemmas
 pub mod KnownTypeLemmas
+pub mod ReplacedLemmas

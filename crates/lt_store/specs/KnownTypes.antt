@@ -4,8 +4,8 @@ use Rattle.lt_definitions.specs.Types.{TypeTree, bool, fun, found}
 use Rattle.lt_definitions.specs.Typing.{Signature, constant_type}
 use Rattle.lt_types.specs.FunctionTypes.{function_parts}
 use Rattle.lt_nameless.specs.Nameless.{Nameless, nameless_free, nameless_bound, nameless_loose, nameless_constant, nameless_application, nameless_abstraction}
-use Rattle.lt_store.specs.declared.known_type.TypeStep.{TypeStep}
-use Rattle.lt_store.specs.declared.known_type.TypeStep.TheVariants.{Apply, Cover}
+use Rattle.lt_store.specs.declared.heads.TypeStep.{TypeStep}
+use Rattle.lt_store.specs.declared.heads.TypeStep.TheVariants.{Apply, Cover}
 
 -- what a type of functions goes to, and another type itself
 abbrev pub second_or : Option (TypeTree × TypeTree) → TypeTree → TypeTree

@@ -12,3 +12,4 @@ pub mod TypeTasks
 pub mod NameTasks
 pub mod Bounds
 pub mod KnownTypes
+pub mod Replaced

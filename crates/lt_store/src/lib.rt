@@ -3,8 +3,8 @@
 
 mod bounds;
 mod change;
+mod heads;
 mod image;
-mod known_type;
 mod last;
 mod memo;
 mod naming;
@@ -12,6 +12,7 @@ mod node;
 mod pass;
 mod passes;
 mod plain_store;
+mod replacing;
 mod same;
 mod storing;
 mod term_store;
@@ -21,7 +22,8 @@ mod type_work;
 mod typing;
 
 pub use bounds::Bounds;
-pub use known_type::known_type;
+pub use heads::known_type;
+pub use memo::Memo;
 pub use naming::from_store;
 pub use node::{Id, Node, View};
 pub use passes::{
@@ -29,6 +31,7 @@ pub use passes::{
     type_instances,
 };
 pub use plain_store::PlainStore;
+pub use replacing::Replacing;
 pub use storing::to_store;
 pub use term_store::TermStore;
 pub use typing::type_at;
