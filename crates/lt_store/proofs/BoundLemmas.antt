@@ -1,5 +1,6 @@
 -- What the bounds of a term tell of it.
-use Rattle.std.proofs.Common.{◌≡◌, ℕ, zero, suc, ◌+◌, ◌<◌, ◌≤◌, List, [], ◌∷◌, ◌++◌, length, length-append, slice_get, Some, get_or, subst, Bool, true, false, ◌||◌, ◌&&◌, if◌then◌else◌, refl, ap, sym, ◌∙◌, arith, nat_eq, ◌⊎◌, inl, inr}
+use Rattle.std.proofs.Common.{◌≡◌, ℕ, zero, suc, ◌+◌, ◌<◌, ◌≤◌, List, [], ◌∷◌, ◌++◌, length, length-append, slice_get, Option, Some, None, get_or, subst, Bool, true, false, ◌||◌, ◌&&◌, if◌then◌else◌, refl, ap, sym, ◌∙◌, arith, nat_eq, ◌⊎◌, inl, inr}
+use Rattle.std.specs.Prelude.{max, IfSome}
 use Rattle.std.proofs.lemmas.Grind.{common_steps}
 use Rattle.std.proofs.lemmas.Bool.Decides.{nat_tests}
 use Rattle.std.proofs.lemmas.Bool.{cases_lt}
@@ -109,3 +110,18 @@ bounded-push ns before after b id e place within here known i c at = by (cases_l
         let same : b ≡ c = sym (get_or-append_seam before b [] b) ∙ ap (λ k. get_or (before ++ b ∷ []) k b) (sym last) ∙ get_or_from_slice_get (before ++ b ∷ []) i c b there in
         let at_id : i ≡ id = last ∙ sym place in
         (omega (arith, within, at_id), subst (λ k. IsBounded (tree_at ns k) c) (sym at_id) (subst (λ (k : Bounds). IsBounded (tree_at ns id) k) same here))
+
+-- bounds of a node's term from those of its children
+pub bounded-application : (f a : Nameless) (b c r : Bounds) → b.binders ≤ r.binders → c.binders ≤ r.binders → max b.names c.names ≡ r.names → IsBounded f b → IsBounded a c → IsBounded (nameless_application f a) r
+bounded-application f a b c r hb hc names kf ka = record {
+  binders = (further b.binders r.binders f hb kf.binders, further c.binders r.binders a hc ka.binders);
+  names = (λ i. max (kf.names i) (ka.names i)) ∙ names;
+}
+
+pub bounded-abstraction : (t : Nameless) (ty : TypeTree) (b r : Bounds) → b.binders ≤ suc r.binders → b.names ≡ r.names → IsBounded t b → IsBounded (nameless_abstraction ty t) r
+bounded-abstraction t ty b r h names known = record { binders = further b.binders (suc r.binders) t h known.binders; names = known.names ∙ names }
+
+-- what is looked up
+pub bounded-look : (ns : List Node) (bs : List Bounds) (id : ℕ) (o : Option Bounds) → slice_get bs id ≡ o → AreBounded ns bs → IfSome o (IsBounded (tree_at ns id))
+bounded-look ns bs id None e known = tt
+bounded-look ns bs id (Some b) e known = (known id b e).1

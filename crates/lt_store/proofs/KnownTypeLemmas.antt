@@ -1,14 +1,20 @@
 -- The head of a typed term tells its type.
-use Rattle.std.proofs.Common.{◌≡◌, ℕ, List, [], ◌∷◌, Option, Some, None, Result, Ok, Err, slice_get, slice_index_or, result_unwrap_or, result_err, refl, ap, sym, ◌∙◌, codes}
+use Rattle.std.proofs.Common.{◌≡◌, ℕ, List, [], ◌∷◌, ◌++◌, ◌<◌, length, reverse, Option, Some, None, Result, Ok, Err, slice_get, slice_index_or, refl, ap, sym, ◌∙◌, codes}
+use Rattle.std.specs.Result.{result_unwrap_or, result_err}
 use Rattle.std.proofs.lemmas.Option.{get_or_from_slice_get}
+use Rattle.std.proofs.lemmas.List.{reverse-append}
 use Rattle.lt_definitions.specs.Types.{TypeTree, bool, fun, found}
 use Rattle.lt_definitions.specs.Typing.{Signature, Fault, type_fault, with_ok, unless, bound_type, applied_type, constant_type}
 use Rattle.lt_types.specs.FunctionTypes.{function_parts}
 use Rattle.lt_nameless.specs.Nameless.{Nameless, nameless_free, nameless_bound, nameless_loose, nameless_constant, nameless_application, nameless_abstraction}
 use Rattle.lt_nameless.specs.NamelessRules.{nameless_typed, nameless_type_of, nameless_fault}
 use Rattle.lt_nameless.proofs.Typings.{applied-ok}
-use Rattle.lt_store.specs.KnownTypes.{head_type, result_part, second_or}
-use Rattle.lt_store.proofs.TypeNumberLemmas.{unless-right}
+use Rattle.lt_hol.specs.TypeTables.{type_at, Extends}
+use Rattle.lt_store.specs.declared.heads.TypeStep.{TypeStep}
+use Rattle.lt_store.specs.declared.heads.TypeStep.TheVariants.{Apply, Cover}
+use Rattle.lt_store.specs.TypeNumbers.{Has}
+use Rattle.lt_store.specs.KnownTypes.{head_type, result_part, second_or, whole_type}
+use Rattle.lt_store.proofs.TypeNumberLemmas.{unless-right, at-has, has-on, has-fun}
 
 ok-parts : {A B : Type 0} (r : Result A Fault) (f : A → Result B Fault) (y : B) → with_ok r f ≡ Ok y → (x : A) × (r ≡ Ok x) × (f x ≡ Ok y)
 ok-parts (Ok x) f y e = (x, refl, e)
@@ -46,3 +52,33 @@ head_known sig t h = by (nameless_typed sig [] t) refl h
     by : (r : Result TypeTree Fault) → nameless_typed sig [] t ≡ r → result_err r ≡ None → head_type sig [] t ≡ result_unwrap_or r bool
     by (Ok u) e k = head_typed sig [] t u e
     by (Err f) e k = cc k
+
+-- steps into a part
+
+pub enter-application : (sig : Signature) (old new : List TypeStep) (tys : List TypeTree) (f a t : Nameless) → new ≡ old ++ Apply ∷ [] → t ≡ nameless_application f a
+    → whole_type sig (reverse new) tys f ≡ whole_type sig (reverse old) tys t
+enter-application sig old new tys f a t e is =
+    ap (λ (ss : List TypeStep). whole_type sig ss tys f) (ap reverse e ∙ reverse-append old (Apply ∷ [])) ∙ ap (whole_type sig (reverse old) tys) (sym is)
+
+pub enter-abstraction : (sig : Signature) (old new : List TypeStep) (before after : List TypeTree) (ty : TypeTree) (b t : Nameless) → new ≡ old ++ Cover ty ∷ [] → after ≡ before ++ ty ∷ []
+    → t ≡ nameless_abstraction ty b → whole_type sig (reverse new) (reverse after) b ≡ whole_type sig (reverse old) (reverse before) t
+enter-abstraction sig old new before after ty b t e k is =
+    ap (λ (ss : List TypeStep). whole_type sig ss (reverse after) b) (ap reverse e ∙ reverse-append old (Cover ty ∷ []))
+    ∙ ap (λ (tys : List TypeTree). whole_type sig (Cover ty ∷ reverse old) tys b) (ap reverse k ∙ reverse-append before (ty ∷ [])) ∙ ap (whole_type sig (reverse old) (reverse before)) (sym is)
+
+-- steps out of it
+
+pub out-some : (ts : List TypeTree) (n i j : ℕ) → Some (type_at ts i, type_at ts j) ≡ function_parts (type_at ts n) → j < length ts → Has ts j (result_part (type_at ts n))
+out-some ts n i j e h = at-has ts j h ∙ ap (λ (o : Option (TypeTree × TypeTree)). Some (second_or o (type_at ts n))) e
+
+pub out-none : (ts : List TypeTree) (n : ℕ) → None ≡ function_parts (type_at ts n) → n < length ts → Has ts n (result_part (type_at ts n))
+out-none ts n e h = at-has ts n h ∙ ap (λ (o : Option (TypeTree × TypeTree)). Some (second_or o (type_at ts n))) e
+
+pub out-cover : (old mid new : List TypeTree) (n from made : ℕ) (ty : TypeTree) → n < length old → Extends old mid → Has mid from ty → Has new made (fun (type_at mid from) (type_at mid n)) → Has new made (fun ty (type_at old n))
+out-cover old mid new n from made ty h grows has is =
+    has-fun mid new from n made ty (type_at old n) is has (has-on old mid n (type_at old n) grows (at-has old n h))
+
+-- a leaf
+
+pub leaf-has : (sig : Signature) (ts tys : List TypeTree) (n : ℕ) (t leaf : Nameless) → t ≡ leaf → Has ts n (head_type sig tys leaf) → Has ts n (head_type sig tys t)
+leaf-has sig ts tys n t leaf e h = h ∙ ap (λ (u : Nameless). Some (head_type sig tys u)) (sym e)

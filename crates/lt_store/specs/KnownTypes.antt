@@ -1,5 +1,6 @@
 -- The type of a term that has one, which the head alone tells.
-use Rattle.std.specs.Prelude.{ℕ, List, [], ◌∷◌, Option, Some, None, slice_index_or, result_unwrap_or}
+use Rattle.std.specs.Prelude.{ℕ, List, [], ◌∷◌, Option, Some, None, slice_index_or}
+use Rattle.std.specs.Result.{result_unwrap_or}
 use Rattle.lt_definitions.specs.Types.{TypeTree, bool, fun, found}
 use Rattle.lt_definitions.specs.Typing.{Signature, constant_type}
 use Rattle.lt_types.specs.FunctionTypes.{function_parts}

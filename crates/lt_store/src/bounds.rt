@@ -65,7 +65,7 @@ impl Bounds {
 
     /// Those of an application.
     fn joined(self, argument: Bounds) -> Bounds
-        ensures { (f a : Nameless) → IsBounded f self.entry → IsBounded a argument.entry
+        ensures { (f a : Nameless) → IsBounded f self → IsBounded a argument
             → IsBounded (nameless_application f a) result }
     {
         Bounds {
@@ -76,7 +76,7 @@ impl Bounds {
 
     /// Those of an abstraction.
     fn covered(self) -> Bounds
-        ensures { (b : Nameless) (ty : TypeTree) → IsBounded b self.entry
+        ensures { (b : Nameless) (ty : TypeTree) → IsBounded b self
             → IsBounded (nameless_abstraction ty b) result }
     {
         Bounds {

@@ -67,7 +67,7 @@ impl Sought<'_> {
 
     /// Whether a term of these bounds is known not to have it under so many binders.
     pub(crate) fn lacks(self, known: Bounds, depth: usize) -> bool
-        ensures { result ≡ true → IsAbsent self.entry known.entry depth }
+        ensures { result ≡ true → IsAbsent self.entry known depth }
     {
         match self {
             Sought::Variable(name, _) => known.names < name.len(),
@@ -89,7 +89,7 @@ impl Change<'_> {
 
     /// Whether a term of these bounds is known to stay as it is under so many binders.
     pub(crate) fn leaves(self, known: Bounds, depth: usize) -> bool
-        ensures { result ≡ true → IsUnchanged self.entry known.entry depth }
+        ensures { result ≡ true → IsUnchanged self.entry known depth }
     {
         match self {
             Change::Open(_) => known.binders <= depth,

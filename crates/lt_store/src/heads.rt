@@ -1,5 +1,6 @@
 //! The types of terms that are known to have one.
-ghost use Rattle.std.specs.Prelude.{◌≡◌, ◌<◌, [], length, reverse, slice_index_or, result_unwrap_or, IfOk, MatchOption};
+ghost use Rattle.std.specs.Prelude.{◌≡◌, ◌<◌, [], length, reverse, slice_get, slice_index_or, Some, IfOk, MatchOption};
+ghost use Rattle.std.specs.Result.{result_unwrap_or};
 ghost use Rattle.lt_definitions.specs.Types.{bool, found};
 ghost use Rattle.lt_definitions.specs.Typing.{Signature as Declared, constant_type};
 ghost use Rattle.lt_nameless.specs.NamelessRules.{nameless_type_of};
@@ -12,7 +13,7 @@ ghost use Rattle.lt_store.specs.Typed.{IsTyped};
 use crate::node::{Id, View};
 use crate::term_store::TermStore;
 use crate::type_numbers::constant_number;
-use lt_hol::{Memory, Name, Signature, TryCopy, Ty, TypeFault, TypeTable, Tys};
+use lt_hol::{Memory, Name, Signature, TryCopy, Ty, TypeTable, Tys};
 use std::alloc::Global;
 
 /// A step from a term into the part that tells its type: into the function of an application, or
@@ -80,18 +81,26 @@ fn descend<S: TermStore>(
 }
 
 /// The type of a bound name's binder, under binders of these types, the innermost one last.
+fn binder_at(binders: &[Ty], index: usize) -> &Ty
+    requires { index < length binders.now }
+    ensures { slice_get (reverse binders.now) index ≡ Some result.now }
+{
+    &binders[binders.len() - 1 - index]
+}
+
+/// The same, or `bool` where there is no binder.
 fn binder_type(alloc: Global, binders: &[Ty], index: usize) -> Result<Ty, Memory>
     ensures { IfOk result (λ ty. ty ≡ slice_index_or (reverse binders.now) index bool) }
 {
     if index < binders.len() {
-        let ty = binders[binders.len() - 1 - index].copy(alloc)?;
+        let ty = binder_at(binders, index).copy(alloc)?;
         return Ok(ty);
     }
     let ty = Ty::bool(alloc)?;
     Ok(ty)
 }
 
-/// The number of a constant's type.
+/// The number of a constant's type, where it has one.
 fn known_constant(
     alloc: Global,
     sig: &Signature,
@@ -104,11 +113,7 @@ fn known_constant(
 {
     match constant_number(alloc, sig, types, name, args) {
         Ok(number) => Ok(number),
-        Err(TypeFault::Memory) => Err(Memory),
-        Err(_) => {
-            let number = types.intern(alloc, &Ty::bool(alloc)?)?;
-            Ok(number)
-        }
+        Err(_) => Err(Memory),
     }
 }
 
@@ -148,11 +153,11 @@ fn leaf_number<S: TermStore>(
 fn step_out(
     alloc: Global,
     types: &mut TypeTable,
-    step: &TypeStep,
+    step: TypeStep,
     number: usize,
 ) -> Result<usize, Memory>
     requires { number < length types.old }
-    ensures { IfOk result (λ n. Has types.new n (outward step.now (type_at types.old number))) }
+    ensures { IfOk result (λ n. Has types.new n (outward step (type_at types.old number))) }
 {
     match step {
         TypeStep::Apply => match types.as_fun(number) {
@@ -160,28 +165,27 @@ fn step_out(
             None => Ok(number),
         },
         TypeStep::Cover(ty) => {
-            let from = types.intern(alloc, ty)?;
+            let from = types.intern(alloc, &ty)?;
             let made = types.fun(alloc, from, number)?;
             Ok(made)
         }
     }
 }
 
-/// The number of the type of the whole, from that of the part into which the steps go.
+/// The number of the type of the whole, from that of the leaf to which the steps go.
 fn ascend(
     alloc: Global,
     types: &mut TypeTable,
-    steps: Vec<TypeStep>,
-    number: usize,
+    steps: &mut Vec<TypeStep>,
+    leaf: usize,
 ) -> Result<usize, Memory>
-    requires { number < length types.old }
+    requires { leaf < length types.old }
     ensures { IfOk result (λ n. Has types.new n
-        (outwards (reverse steps.items) (type_at types.old number))) }
+        (outwards (reverse steps.old.items) (type_at types.old leaf))) }
 {
-    let mut steps = steps;
-    let mut number = number;
+    let mut number = leaf;
     while let Some(step) = steps.pop() {
-        number = step_out(alloc, types, &step, number)?;
+        number = step_out(alloc, types, step, number)?;
     }
     Ok(number)
 }
@@ -203,8 +207,8 @@ pub fn known_type<S: TermStore>(
     let mut binders = Vec::new(alloc);
     let leaf = descend(alloc, store, &mut steps, &mut binders, t)?;
     let mut types = TypeTable::new(alloc)?;
-    let number = leaf_number(alloc, store, sig, &mut types, binders.as_slice(), leaf)?;
-    let number = ascend(alloc, &mut types, steps, number)?;
-    let ty = types.ty(alloc, number)?;
+    let of_leaf = leaf_number(alloc, store, sig, &mut types, binders.as_slice(), leaf)?;
+    let of_whole = ascend(alloc, &mut types, &mut steps, of_leaf)?;
+    let ty = types.ty(alloc, of_whole)?;
     Ok(ty)
 }

@@ -5,6 +5,7 @@ ghost use Rattle.lt_nameless.specs.NamelessRules.{instance_at, abstracted, namel
 ghost use Rattle.lt_store.specs.Trees.{tree_at, trees, AllBelow, Extends};
 ghost use Rattle.lt_store.specs.Building.{Builds, BuildsEach};
 ghost use Rattle.lt_store.specs.Passes.{image, occurs, longest_free_of, ChangeIsIn, IsSound};
+ghost use Rattle.lt_store.specs.Replaced.{AreReplaced};
 ghost use Rattle.lt_store.specs.declared.change.Work.TheVariants as work;
 
 use crate::change::{Change, Sought, Work};
@@ -140,6 +141,23 @@ pub fn type_instances<S: TermStore>(
     Ok(made)
 }
 
+/// What the store kept of the last replacement, if it is this one, else nothing.
+fn made_before<S: TermStore>(
+    alloc: Global,
+    store: &mut S,
+    name: &Name,
+    ty: &Ty,
+    by: Id,
+) -> Memo
+    ensures kept { S.nodes store.new ≡ S.nodes store.old }
+    ensures is { AreReplaced (S.nodes store.new) name.now ty.now by result }
+{
+    match store.take_replaced(name, ty, by) {
+        Some(memo) => memo,
+        None => HashMap::new(alloc),
+    }
+}
+
 /// Each of some terms with `by` put for a free variable.
 ///
 /// A store that keeps what a replacement made has the next one of the same variable by the same
@@ -157,10 +175,7 @@ pub fn replace_free<S: TermStore>(
     ensures { BuildsEach (S.nodes store.old) (S.nodes store.new) result
         (map (nameless_replaced name.now ty.now (tree_at (S.nodes store.old) by)) (trees (S.nodes store.old) ts.now)) }
 {
-    let mut memo = match store.take_replaced(name, ty, by) {
-        Some(memo) => memo,
-        None => HashMap::new(alloc),
-    };
+    let mut memo = made_before(alloc, store, name, ty, by);
     let made = make_each(alloc, store, Change::Replace(name, ty, by), &mut memo, ts)?;
     let name = name.copy(alloc)?;
     let ty = ty.copy(alloc)?;

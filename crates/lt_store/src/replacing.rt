@@ -8,7 +8,7 @@ use crate::node::Id;
 use lt_hol::{Name, Ty};
 
 /// A replacement of a free variable by a term, with what it made of the ids that it met.
-#[derive(Drop)]
+#[derive(Debug, Drop)]
 pub struct Replacing {
     pub name: Name,
     pub ty: Ty,
