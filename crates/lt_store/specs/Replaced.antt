@@ -10,7 +10,7 @@ use Rattle.lt_store.specs.Trees.{tree_at}
 -- Each id that was kept has its term with the variable replaced, at any depth.
 abbrev pub AreReplaced : List Node → Chars → TypeTree → ℕ → Memo → Type 0
 AreReplaced ns x ty by m = (i d r : ℕ) → result_at m i d ≡ Some r
-    → (i < length ns) × (r < length ns) × (tree_at ns r ≡ nameless_replaced x ty (tree_at ns by) (tree_at ns i))
+    → (i < length ns) × ((r < length ns) × (tree_at ns r ≡ nameless_replaced x ty (tree_at ns by) (tree_at ns i)))
 
 -- The term that is put is in the store, and what was kept is right.
 abbrev pub IsReplacing : List Node → Replacing → Type 0

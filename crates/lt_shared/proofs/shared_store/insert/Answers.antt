@@ -5,14 +5,14 @@ use Rattle.lt_shared.proofs.NodeEquality.{node-same, same-node}
 use Rattle.lt_shared.proofs.SeparateLemmas.{grounded_insert, makes_insert, separate_from_distinct}
 use Rattle.lt_shared.proofs.shared_store.insert.Goals as goal
 
-pub returns-in_ok-id-clause-grounded : goal.returns-in_ok-id-clause-grounded
-returns-in_ok-id-clause-grounded c =
+pub returns-clause-grounded : goal.returns-clause-grounded
+returns-clause-grounded c =
     subst IsGrounded (sym c.in_ok-id.ensures.keys) (grounded_insert _ _ _ c.requires.grounded c.requires.below)
 
-pub returns-in_ok-id-clause-separate : goal.returns-in_ok-id-clause-separate
-returns-in_ok-id-clause-separate c = separate_from_distinct eq-value.it same-node _ c.in_ok-id.ensures.unique
+pub returns-clause-separate : goal.returns-clause-separate
+returns-clause-separate c = separate_from_distinct eq-value.it same-node _ c.in_ok-id.ensures.unique
 
-pub returns-in_ok-id-clause-ok : goal.returns-in_ok-id-clause-ok
-returns-in_ok-id-clause-ok c =
+pub returns-clause-ok : goal.returns-clause-ok
+returns-clause-ok c =
     let stored = c.in_ok-id.ensures.stored in
-    makes_insert _ _ _ _ _ _ c.in_ok-id.ensures.keys (returns-in_ok-id-clause-grounded c) c.requires.below stored.1 (node-same c.args.node stored.0 stored.2)
+    makes_insert _ _ _ _ _ _ c.in_ok-id.ensures.keys (returns-clause-grounded c) c.requires.below stored.1 (node-same c.args.node stored.0 stored.2)

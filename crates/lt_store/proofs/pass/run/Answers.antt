@@ -34,13 +34,13 @@ push_children-requires g c =
 pub loop-task-smaller-then-branch : goal.loop-task-smaller-then-branch
 loop-task-smaller-then-branch g c =
     let was = rw c.in-Visit.is at c.in-Some.ensures.items in
-    (skip_turn _ _ _ c.loop-task.memo _ _ _ _ c.loop-task.invariant.underway c.is_settled.new.memo c.in_ok-is_settled.ensures.kept was (c.in_ok-is_settled.ensures.is c.if-branch.true)).smaller
+    (skip_turn _ _ _ c.loop-task.memo _ _ _ _ c.loop-task.invariant.underway c.is_settled.new.memo c.in_ok-is_settled-in-Visit.ensures.kept was (c.in_ok-is_settled-in-Visit.ensures.is c.if-branch.true)).smaller
 
 pub loop-task-preserved-then-branch : goal.loop-task-preserved-then-branch
 loop-task-preserved-then-branch g c =
     let was = rw c.in-Visit.is at c.in-Some.ensures.items in
-    let turn = skip_turn _ _ _ c.loop-task.memo _ _ _ _ c.loop-task.invariant.underway c.is_settled.new.memo c.in_ok-is_settled.ensures.kept was (c.in_ok-is_settled.ensures.is c.if-branch.true) in
-    record { kept = c.loop-task.invariant.kept; sound = c.in_ok-is_settled.ensures.sound; underway = turn.underway }
+    let turn = skip_turn _ _ _ c.loop-task.memo _ _ _ _ c.loop-task.invariant.underway c.is_settled.new.memo c.in_ok-is_settled-in-Visit.ensures.kept was (c.in_ok-is_settled-in-Visit.ensures.is c.if-branch.true) in
+    record { kept = c.loop-task.invariant.kept; sound = c.in_ok-is_settled-in-Visit.ensures.sound; underway = turn.underway }
 
 pub result_of-requires-clause-id : goal.result_of-requires-clause-id
 result_of-requires-clause-id g c =
@@ -67,16 +67,16 @@ pub loop-task-smaller-in-Continue-branch-4 : goal.loop-task-smaller-in-Continue-
 loop-task-smaller-in-Continue-branch-4 g c =
     let was = rw c.in-Visit.is at c.in-Some.ensures.items in
     let small = rw c.step-step.ensures.step at c.step-step.ensures.most in
-    (visit_turn (step_of c.args.work) _ _ c.loop-task.memo _ _ _ _ c.loop-task.invariant.underway c.is_settled.new.memo c.in_ok-is_settled.ensures.kept small _ _ _ _ was c.in_ok-push-in-Visit.ensures.items (rw c.step-step.ensures.step at c.in_ok-push_children-in-Visit.ensures) c.requires.root c.loop-task.invariant.kept
+    (visit_turn (step_of c.args.work) _ _ c.loop-task.memo _ _ _ _ c.loop-task.invariant.underway c.is_settled.new.memo c.in_ok-is_settled-in-Visit.ensures.kept small _ _ _ _ was c.in_ok-push-in-Visit.ensures.items (rw c.step-step.ensures.step at c.in_ok-push_children-in-Visit.ensures) c.requires.root c.loop-task.invariant.kept
     c.view.ensures.node c.view.ensures.below c.view.ensures.stands).smaller
 
 pub loop-task-preserved-in-Continue-branch-4 : goal.loop-task-preserved-in-Continue-branch-4
 loop-task-preserved-in-Continue-branch-4 g c =
     let was = rw c.in-Visit.is at c.in-Some.ensures.items in
     let small = rw c.step-step.ensures.step at c.step-step.ensures.most in
-    let turn = visit_turn (step_of c.args.work) _ _ c.loop-task.memo _ _ _ _ c.loop-task.invariant.underway c.is_settled.new.memo c.in_ok-is_settled.ensures.kept small _ _ _ _ was c.in_ok-push-in-Visit.ensures.items (rw c.step-step.ensures.step at c.in_ok-push_children-in-Visit.ensures) c.requires.root c.loop-task.invariant.kept
+    let turn = visit_turn (step_of c.args.work) _ _ c.loop-task.memo _ _ _ _ c.loop-task.invariant.underway c.is_settled.new.memo c.in_ok-is_settled-in-Visit.ensures.kept small _ _ _ _ was c.in_ok-push-in-Visit.ensures.items (rw c.step-step.ensures.step at c.in_ok-push_children-in-Visit.ensures) c.requires.root c.loop-task.invariant.kept
     c.view.ensures.node c.view.ensures.below c.view.ensures.stands in
-    record { kept = c.loop-task.invariant.kept; sound = c.in_ok-is_settled.ensures.sound; underway = turn.underway }
+    record { kept = c.loop-task.invariant.kept; sound = c.in_ok-is_settled-in-Visit.ensures.sound; underway = turn.underway }
 
 pub loop-task-smaller : goal.loop-task-smaller
 loop-task-smaller g c =
