@@ -14,12 +14,13 @@ replaced-extends : (old new : List Node) (x : Chars) (ty : TypeTree) (by : ℕ) 
 replaced-extends old new x ty by m e h kept i d r at =
     let here = kept i d r at in
     let from : i < length old = here.0 in
-    let to : r < length old = here.1.0 in
-    (
+    let to : r < length old = here.1.0 in (
       omega (arith, e.grows, from),
-      (omega (arith, e.grows, to),
-      tree_at-extends old new r e to ∙ here.1.1 ∙ ap (λ v. nameless_replaced x ty v (tree_at old i)) (sym (tree_at-extends old new by e h))
-      ∙ ap (nameless_replaced x ty (tree_at new by)) (sym (tree_at-extends old new i e from))),
+      (
+        omega (arith, e.grows, to),
+        tree_at-extends old new r e to ∙ here.1.1 ∙ ap (λ v. nameless_replaced x ty v (tree_at old i)) (sym (tree_at-extends old new by e h))
+            ∙ ap (nameless_replaced x ty (tree_at new by)) (sym (tree_at-extends old new i e from)),
+      ),
     )
 
 pub replacing-extends : (old new : List Node) (o : Option Replacing) → Extends old new → IfSome o (IsReplacing old) → IfSome o (IsReplacing new)

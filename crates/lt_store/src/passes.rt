@@ -142,13 +142,7 @@ pub fn type_instances<S: TermStore>(
 }
 
 /// What the store kept of the last replacement, if it is this one, else nothing.
-fn made_before<S: TermStore>(
-    alloc: Global,
-    store: &mut S,
-    name: &Name,
-    ty: &Ty,
-    by: Id,
-) -> Memo
+fn made_before<S: TermStore>(alloc: Global, store: &mut S, name: &Name, ty: &Ty, by: Id) -> Memo
     ensures kept { S.nodes store.new ≡ S.nodes store.old }
     ensures is { AreReplaced (S.nodes store.new) name.now ty.now by result }
 {
@@ -179,7 +173,12 @@ pub fn replace_free<S: TermStore>(
     let made = make_each(alloc, store, Change::Replace(name, ty, by), &mut memo, ts)?;
     let name = name.copy(alloc)?;
     let ty = ty.copy(alloc)?;
-    store.keep_replaced(Replacing { name, ty, by, made: memo });
+    store.keep_replaced(Replacing {
+        name,
+        ty,
+        by,
+        made: memo,
+    });
     Ok(made)
 }
 
