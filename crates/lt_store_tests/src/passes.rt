@@ -1,8 +1,9 @@
 //! Each pass once, over any store.
 use crate::making::{apply, are_same, bool_type, name, variable};
 use lt_hol::{Memory, Ty, TyMap};
+use lt_shared::SharedStore;
 use lt_store::{
-    PlainStore, TermStore, abstract_free, has_free, has_loose, instantiate, longest_free,
+    Id, PlainStore, TermStore, abstract_free, has_free, has_loose, instantiate, longest_free,
     replace_free, type_instance, type_instances,
 };
 use std::alloc::Global;
@@ -52,6 +53,22 @@ fn replaces<S: TermStore>(alloc: Global, rt: &impl Abort, store: &mut S) -> Resu
     assert_eq!(rt; made.len(), 1);
     assert!(rt; are_same(alloc, rt, store, *made.at(0), wanted)?);
     Ok(())
+}
+
+/// `x x` put for `x`.
+fn doubled<S: TermStore>(
+    alloc: Global,
+    rt: &impl Abort,
+    store: &mut S,
+    t: Id,
+) -> Result<Id, Memory> {
+    let x = variable(alloc, rt, store, "x")?;
+    let twice = apply(alloc, rt, store, x, x)?;
+    let x = name(alloc, rt, "x")?;
+    assert!(rt; t < store.len() && twice < store.len());
+    let made = replace_free(alloc, store, &[t], &x, &bool_type(alloc)?, twice)?;
+    assert_eq!(rt; made.len(), 1);
+    Ok(*made.at(0))
 }
 
 /// `long p` has `p`, no loose bound name, and no longer name than `long`.
@@ -106,5 +123,17 @@ fn variables_are_replaced_and_found(rt: HostRuntime) -> Result<(), Fail> {
 fn types_are_put_for_type_variables(rt: HostRuntime) -> Result<(), Fail> {
     let mut store = PlainStore::new(rt.alloc());
     puts_a_type(rt.alloc(), &rt, &mut store)?;
+    Ok(())
+}
+
+/// A term of 2^1000 variables, of which each doubling makes one node and works on one alone.
+#[test]
+fn doublings_are_shared(rt: HostRuntime) -> Result<(), Fail> {
+    let mut store = SharedStore::new(rt.alloc());
+    let mut t = variable(rt.alloc(), &rt, &mut store, "x")?;
+    for _ in 0..1000 {
+        t = doubled(rt.alloc(), &rt, &mut store, t)?;
+    }
+    assert_eq!(rt; store.len(), 1001);
     Ok(())
 }
