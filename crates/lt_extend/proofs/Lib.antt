@@ -1,0 +1,7 @@
+pub mod Behind
+pub mod ClosedTerms
+pub mod LineOutcomes
+pub mod Refusals
+pub mod Stands
+pub mod StoredLines
+pub mod Tested
