@@ -1,7 +1,11 @@
+pub mod Accepted
 pub mod Behind
 pub mod ClosedTerms
+pub mod Committed
 pub mod LineOutcomes
+pub mod LooseTerms
 pub mod Refusals
 pub mod Stands
 pub mod StoredLines
 pub mod Tested
+pub mod Unreached

@@ -1,10 +1,9 @@
 -- What a typedef needs of the kernel's state.
 use Rattle.std.specs.Prelude.{◌≡◌, ℕ, List, [], length, None}
-use Rattle.std.specs.List.{All}
 use Rattle.lt_definitions.specs.Types.{Chars, found, TypeTree, fun}
 use Rattle.lt_definitions.specs.Terms.{TermTree}
 use Rattle.lt_definitions.specs.Typing.{Signature, type_fault}
-use Rattle.lt_definitions.specs.Items.{new_type}
+use Rattle.lt_definitions.specs.Items.{new_type, rep_label, rep_inverse_label, abs_inverse_label, rep_statement, rep_inverse_statement, abs_inverse_statement}
 use Rattle.lt_nameless.specs.Nameless.{nameless, IsWhole}
 use Rattle.lt_hol.specs.Faults.{with_type, with_const}
 
@@ -26,11 +25,17 @@ pub record IsNewType (sig : Signature) (n : Chars) (params : List Chars) (raw : 
   pub rep_sound : type_fault (with_type n (length params) sig) (fun (new_type n params) raw) ≡ None
   pub abs_sound : type_fault (with_rep n params raw b sig) (fun raw (new_type n params)) ≡ None
 
--- A statement whose bound names have binders, under a label that is neither among the kernel's nor among those kept.
-pub record IsNewStatement (named : List (Chars × ℕ)) (kept : List (Chars × TermTree)) (p : Chars × TermTree) : Type 0 where
-  pub whole : IsWhole 0 (nameless [] p.1)
-  pub new : found p.0 named ≡ None
-  pub fresh : found p.0 kept ≡ None
+-- A statement whose bound names have binders, under a label that is neither among the kernel's nor
+-- among those of the statements that are kept.
+pub record IsNewStatement (named : List (Chars × ℕ)) (kept : List (Chars × TermTree))
+    (l : Chars) (t : TermTree) : Type 0 where
+  pub whole : IsWhole 0 (nameless [] t)
+  pub new : found l named ≡ None
+  pub fresh : found l kept ≡ None
 
-abbrev pub AreNewStatements : List (Chars × ℕ) → List (Chars × TermTree) → List (Chars × TermTree) → Type 0
-AreNewStatements named kept ps = All (IsNewStatement named kept) ps
+-- The three statements of a typedef are so.
+pub record AreNewStatements (named : List (Chars × ℕ)) (kept : List (Chars × TermTree))
+    (n : Chars) (new raw : TypeTree) (p : TermTree) (a b : Chars) : Type 0 where
+  pub first : IsNewStatement named kept (rep_label n) (rep_statement new raw p b)
+  pub second : IsNewStatement named kept (rep_inverse_label n) (rep_inverse_statement new raw a b)
+  pub third : IsNewStatement named kept (abs_inverse_label n) (abs_inverse_statement new raw p a b)

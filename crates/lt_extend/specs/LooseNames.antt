@@ -1,8 +1,8 @@
 -- Names that aren't among those that are allowed.
 use Rattle.std.specs.Prelude.{List, [], ◌∷◌, not, Option, Some, None}
 use Rattle.std.specs.List.{find}
+use Rattle.std.specs.Option.{option_or}
 use Rattle.lt_definitions.specs.Types.{Chars, has_name}
-use Rattle.lt_definitions.specs.Typing.{earlier}
 use Rattle.lt_terms.specs.declared.term.TermNode.{TermNode}
 use Rattle.lt_terms.specs.declared.term.TermNode.TheVariants.{Free, Bound, Const, App, Lam}
 use Rattle.lt_terms.specs.Numberings.{node_names}
@@ -17,12 +17,12 @@ loose_in_node allowed n = first_loose allowed (node_names n)
 
 -- what an application makes of those of its function and its argument, the last one first
 abbrev pub joined_firsts : List (Option Chars) → List (Option Chars)
-joined_firsts (a ∷ f ∷ before) = earlier f a ∷ before
+joined_firsts (a ∷ f ∷ before) = option_or f a ∷ before
 joined_firsts _ = []
 
 -- what an abstraction makes of that of its binder's type and that of its body
 abbrev pub covered_firsts : Option Chars → List (Option Chars) → List (Option Chars)
-covered_firsts own (b ∷ before) = earlier own b ∷ before
+covered_firsts own (b ∷ before) = option_or own b ∷ before
 covered_firsts own [] = []
 
 -- what a node makes of those of the terms before it, the last term first

@@ -188,8 +188,8 @@ fn enter_stated<S: TermStore>(
     abs: &Name,
     rep: &Name,
 ) -> Result<(), Memory>
-    requires { AreNewStatements proof.old.named statements.old.entries (typedef_statements name.now
-        (new_type name.now params.now) raw.now predicate.now abs.now rep.now) }
+    requires { AreNewStatements proof.old.named statements.old.entries name.now
+        (new_type name.now params.now) raw.now predicate.now abs.now rep.now }
     ensures behind { IsBehind proof.old proof.new }
     ensures front { GoesOn statements.old.entries statements.new.entries }
     ensures stands { OnOk result ((ctx : Context)

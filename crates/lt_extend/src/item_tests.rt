@@ -43,8 +43,9 @@ pub(crate) fn test_const(
     ensures { Tests (refusal (context_at sig.now _statements.now.entries)
         (const_item name.now ty.now)) result }
 {
-    if let Err(fault) = check_type(alloc, sig, ty) {
-        return Err(fault);
+    match check_type(alloc, sig, ty) {
+        Ok(()) => {}
+        Err(fault) => return Err(fault),
     }
     check_new_const(alloc, sig, name)
 }
@@ -60,11 +61,13 @@ pub(crate) fn test_statement(
     ensures { Tests (refusal (context_at sig.now statements.now.entries)
         (axiom_item label.now statement.now)) result }
 {
-    if let Err(fault) = check_boolean(alloc, sig, statement) {
-        return Err(fault);
+    match check_boolean(alloc, sig, statement) {
+        Ok(()) => {}
+        Err(fault) => return Err(fault),
     }
-    if let Err(fault) = check_new_label(alloc, statements, label) {
-        return Err(fault);
+    match check_new_label(alloc, statements, label) {
+        Ok(()) => {}
+        Err(fault) => return Err(fault),
     }
     check_closed(statement)
 }
@@ -81,19 +84,22 @@ pub(crate) fn test_definition(
     ensures { Tests (refusal (context_at sig.now statements.now.entries)
         (def_item name.now ty.now body.now)) result }
 {
-    if let Err(fault) = check_type(alloc, sig, ty) {
-        return Err(fault);
+    match check_type(alloc, sig, ty) {
+        Ok(()) => {}
+        Err(fault) => return Err(fault),
     }
     let found = match type_of(alloc, sig, body) {
         Ok(found) => found,
         Err(fault) => return Err(fault),
     };
-    if let Err(fault) = check_new_const(alloc, sig, name) {
-        return Err(fault);
+    match check_new_const(alloc, sig, name) {
+        Ok(()) => {}
+        Err(fault) => return Err(fault),
     }
     let label = definition_label(alloc, name)?;
-    if let Err(fault) = check_new_label(alloc, statements, &label) {
-        return Err(fault);
+    match check_new_label(alloc, statements, &label) {
+        Ok(()) => {}
+        Err(fault) => return Err(fault),
     }
     check_body(alloc, ty, found, body)
 }
@@ -104,11 +110,13 @@ fn check_body(alloc: Global, ty: &Ty, found: Ty, body: &Term) -> Result<(), Item
     ensures { Tests (first_of (stated_type_test ty.now (Fine found) ∷ closed_test body.now
         ∷ variables_test (type_variables ty.now) body.now ∷ [])) result }
 {
-    if let Err(fault) = check_stated(alloc, ty, found) {
-        return Err(fault);
+    match check_stated(alloc, ty, found) {
+        Ok(()) => {}
+        Err(fault) => return Err(fault),
     }
-    if let Err(fault) = check_closed(body) {
-        return Err(fault);
+    match check_closed(body) {
+        Ok(()) => {}
+        Err(fault) => return Err(fault),
     }
     let allowed = type_variables(alloc, ty)?;
     check_variables(alloc, &allowed, body)
@@ -147,11 +155,13 @@ pub(crate) fn test_typedef(
         Ok(inhabited) => inhabited,
         Err(fault) => return Err(fault),
     };
-    if let Err(fault) = check_typedef_names(alloc, sig, name, abs, rep) {
-        return Err(fault);
+    match check_typedef_names(alloc, sig, name, abs, rep) {
+        Ok(()) => {}
+        Err(fault) => return Err(fault),
     }
-    if let Err(fault) = check_typedef_labels(alloc, statements, name) {
-        return Err(fault);
+    match check_typedef_labels(alloc, statements, name) {
+        Ok(()) => {}
+        Err(fault) => return Err(fault),
     }
     check_predicate(alloc, params, predicate, found, inhabited)
 }
@@ -183,14 +193,17 @@ fn check_typedef_names(
         ∷ new_name sig.now.consts abs.now
         ∷ refused_where (same_name abs.now rep.now) (duplicate abs.now) ∷ [])) result }
 {
-    if let Err(fault) = check_new_type(alloc, sig, name) {
-        return Err(fault);
+    match check_new_type(alloc, sig, name) {
+        Ok(()) => {}
+        Err(fault) => return Err(fault),
     }
-    if let Err(fault) = check_new_const(alloc, sig, rep) {
-        return Err(fault);
+    match check_new_const(alloc, sig, rep) {
+        Ok(()) => {}
+        Err(fault) => return Err(fault),
     }
-    if let Err(fault) = check_new_const(alloc, sig, abs) {
-        return Err(fault);
+    match check_new_const(alloc, sig, abs) {
+        Ok(()) => {}
+        Err(fault) => return Err(fault),
     }
     check_other(alloc, abs, rep)
 }
@@ -216,12 +229,14 @@ fn check_typedef_labels(
         ∷ new_name statements.now.entries (abs_inverse_label name.now) ∷ [])) result }
 {
     let label = rep_label(alloc, name)?;
-    if let Err(fault) = check_new_label(alloc, statements, &label) {
-        return Err(fault);
+    match check_new_label(alloc, statements, &label) {
+        Ok(()) => {}
+        Err(fault) => return Err(fault),
     }
     let label = rep_inverse_label(alloc, name)?;
-    if let Err(fault) = check_new_label(alloc, statements, &label) {
-        return Err(fault);
+    match check_new_label(alloc, statements, &label) {
+        Ok(()) => {}
+        Err(fault) => return Err(fault),
     }
     let label = abs_inverse_label(alloc, name)?;
     check_new_label(alloc, statements, &label)
@@ -238,12 +253,14 @@ fn check_predicate(
 ) -> Result<Ty, ItemFault>
     ensures { IsPredicate params.now predicate.now found inhabited.now result }
 {
-    if let Err(fault) = check_closed(predicate) {
-        return Err(fault);
+    match check_closed(predicate) {
+        Ok(()) => {}
+        Err(fault) => return Err(fault),
     }
     let allowed = name_set(alloc, params)?;
-    if let Err(fault) = check_variables(alloc, &allowed, predicate) {
-        return Err(fault);
+    match check_variables(alloc, &allowed, predicate) {
+        Ok(()) => {}
+        Err(fault) => return Err(fault),
     }
     let distinct = allowed.len() == params.len();
     check_shape(alloc, distinct, predicate, found, inhabited)

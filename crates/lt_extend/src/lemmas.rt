@@ -36,12 +36,14 @@ pub(crate) fn derive_lemma<S: TermStore>(
         result }
 {
     proof.clear();
-    if let Err(fault) = add_lines(alloc, proof, lines) {
-        return Err(fault);
+    match add_lines(alloc, proof, lines) {
+        Ok(()) => {}
+        Err(fault) => return Err(fault),
     }
     let id = proof.add_term(alloc, statement)?;
-    if let Err(fault) = check_proved(alloc, proof, lines.len(), id) {
-        return Err(fault);
+    match check_proved(alloc, proof, lines.len(), id) {
+        Ok(()) => {}
+        Err(fault) => return Err(fault),
     }
     Ok(id)
 }

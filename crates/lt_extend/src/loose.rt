@@ -2,7 +2,6 @@
 ghost use Rattle.std.specs.Prelude.{◌≡◌, [], ◌∷◌, Option as Maybe, None as Nothing, reverse, IfOk};
 ghost use Rattle.lt_definitions.specs.Types.{Chars, row, type_names, types_names};
 ghost use Rattle.lt_definitions.specs.Terms.{term_variables};
-ghost use Rattle.lt_definitions.specs.Typing.{earlier};
 ghost use Rattle.std.specs.Option.{option_copied};
 ghost use Rattle.lt_terms.specs.Numberings.{variable_names};
 ghost use Rattle.lt_extend.specs.LooseNames.{first_loose, loose_in_node, joined_firsts, covered_firsts, loose_grow};
@@ -86,7 +85,7 @@ fn join_to(firsts: Vec<Option<Name>>, argument: Option<Name>) -> Result<Vec<Opti
     let Some(function) = firsts.pop() else {
         return Ok(firsts);
     };
-    one_more(firsts, earlier(function, argument))
+    one_more(firsts, function.or(argument))
 }
 
 /// The last one becomes that of an abstraction over a type that has this one.
@@ -97,17 +96,7 @@ fn cover_last(firsts: Vec<Option<Name>>, own: Option<Name>) -> Result<Vec<Option
     let Some(body) = firsts.pop() else {
         return Ok(firsts);
     };
-    one_more(firsts, earlier(own, body))
-}
-
-/// The first of two, or the second.
-fn earlier(first: Option<Name>, second: Option<Name>) -> Option<Name>
-    ensures { result ≡ earlier first second }
-{
-    match first {
-        Some(name) => Some(name),
-        None => second,
-    }
+    one_more(firsts, own.or(body))
 }
 
 /// The first of a node's own types.

@@ -72,18 +72,22 @@ impl<S: TermStore> Theory<S> {
         ensures in_step { IsInStep self.new }
     {
         let sig = self.proof.signature();
-        if let Err(fault) = test_type(alloc, sig, &self.statements, &name, arity) {
-            return Err(fault);
+        match test_type(alloc, sig, &self.statements, &name, arity) {
+            Ok(()) => {}
+            Err(fault) => return Err(fault),
         }
         let mark = mark_of(&self.proof, &self.statements);
         let entered = enter_type(alloc, &mut self.proof, &name, arity);
         let item = Item::TypeDecl(name, arity);
-        let Theory {
-            items,
-            statements,
-            proof,
-        } = self;
-        commit(alloc, proof, statements, items, mark, entered, item)
+        commit(
+            alloc,
+            &mut self.proof,
+            &mut self.statements,
+            &mut self.items,
+            mark,
+            entered,
+            item,
+        )
     }
 
     /// Adds a constant: what is wrong with its type, then `Duplicate` where one has the name.
@@ -93,18 +97,22 @@ impl<S: TermStore> Theory<S> {
         ensures in_step { IsInStep self.new }
     {
         let sig = self.proof.signature();
-        if let Err(fault) = test_const(alloc, sig, &self.statements, &name, &ty) {
-            return Err(fault);
+        match test_const(alloc, sig, &self.statements, &name, &ty) {
+            Ok(()) => {}
+            Err(fault) => return Err(fault),
         }
         let mark = mark_of(&self.proof, &self.statements);
         let entered = enter_const(alloc, &mut self.proof, &name, &ty);
         let item = Item::ConstDecl(name, ty);
-        let Theory {
-            items,
-            statements,
-            proof,
-        } = self;
-        commit(alloc, proof, statements, items, mark, entered, item)
+        commit(
+            alloc,
+            &mut self.proof,
+            &mut self.statements,
+            &mut self.items,
+            mark,
+            entered,
+            item,
+        )
     }
 
     /// Adds an axiom: what is wrong with its statement, `NotBool`, `Duplicate` where a statement has
@@ -120,18 +128,28 @@ impl<S: TermStore> Theory<S> {
         ensures in_step { IsInStep self.new }
     {
         let sig = self.proof.signature();
-        if let Err(fault) = test_statement(alloc, sig, &self.statements, &label, &statement) {
-            return Err(fault);
+        match test_statement(alloc, sig, &self.statements, &label, &statement) {
+            Ok(()) => {}
+            Err(fault) => return Err(fault),
         }
         let mark = mark_of(&self.proof, &self.statements);
-        let Theory {
-            items,
-            statements,
-            proof,
-        } = self;
-        let entered = enter_statement(alloc, proof, statements, &label, &statement);
+        let entered = enter_statement(
+            alloc,
+            &mut self.proof,
+            &mut self.statements,
+            &label,
+            &statement,
+        );
         let item = Item::Axiom(label, statement);
-        commit(alloc, proof, statements, items, mark, entered, item)
+        commit(
+            alloc,
+            &mut self.proof,
+            &mut self.statements,
+            &mut self.items,
+            mark,
+            entered,
+            item,
+        )
     }
 
     /// Adds a definition: what is wrong with the type, then with the body, `Duplicate` for the
@@ -143,18 +161,29 @@ impl<S: TermStore> Theory<S> {
         ensures in_step { IsInStep self.new }
     {
         let sig = self.proof.signature();
-        if let Err(fault) = test_definition(alloc, sig, &self.statements, &name, &ty, &body) {
-            return Err(fault);
+        match test_definition(alloc, sig, &self.statements, &name, &ty, &body) {
+            Ok(()) => {}
+            Err(fault) => return Err(fault),
         }
         let mark = mark_of(&self.proof, &self.statements);
-        let Theory {
-            items,
-            statements,
-            proof,
-        } = self;
-        let entered = enter_definition(alloc, proof, statements, &name, &ty, &body);
+        let entered = enter_definition(
+            alloc,
+            &mut self.proof,
+            &mut self.statements,
+            &name,
+            &ty,
+            &body,
+        );
         let item = Item::Def(name, ty, body);
-        commit(alloc, proof, statements, items, mark, entered, item)
+        commit(
+            alloc,
+            &mut self.proof,
+            &mut self.statements,
+            &mut self.items,
+            mark,
+            entered,
+            item,
+        )
     }
 
     /// Adds a typedef: what is wrong with the predicate, `UnknownLabel` for the statement that
@@ -193,16 +222,28 @@ impl<S: TermStore> Theory<S> {
         };
         let label = by.copy(alloc)?;
         let mark = mark_of(&self.proof, &self.statements);
-        let Theory {
-            items,
-            statements,
-            proof,
-        } = self;
         let entered = enter_typedef(
-            alloc, proof, statements, &name, names, &pred, &raw, by, &abs, &rep,
+            alloc,
+            &mut self.proof,
+            &mut self.statements,
+            &name,
+            names,
+            &pred,
+            &raw,
+            by,
+            &abs,
+            &rep,
         );
         let item = Item::Typedef(name, params, pred, label, abs, rep);
-        commit(alloc, proof, statements, items, mark, entered, item)
+        commit(
+            alloc,
+            &mut self.proof,
+            &mut self.statements,
+            &mut self.items,
+            mark,
+            entered,
+            item,
+        )
     }
 
     /// Adds a lemma: the refusals of an axiom, then that of its first line that has one, `NotProved`
@@ -219,8 +260,9 @@ impl<S: TermStore> Theory<S> {
         ensures in_step { IsInStep self.new }
     {
         let sig = self.proof.signature();
-        if let Err(fault) = test_statement(alloc, sig, &self.statements, &label, &statement) {
-            return Err(fault);
+        match test_statement(alloc, sig, &self.statements, &label, &statement) {
+            Ok(()) => {}
+            Err(fault) => return Err(fault),
         }
         let id = match derive_lemma(alloc, &mut self.proof, &statement, &lines) {
             Ok(id) => id,
@@ -228,14 +270,24 @@ impl<S: TermStore> Theory<S> {
         };
         self.proof.clear();
         let mark = mark_of(&self.proof, &self.statements);
-        let Theory {
-            items,
-            statements,
-            proof,
-        } = self;
-        let entered = enter_stored(alloc, proof, statements, &label, &statement, id);
+        let entered = enter_stored(
+            alloc,
+            &mut self.proof,
+            &mut self.statements,
+            &label,
+            &statement,
+            id,
+        );
         let item = Item::Lemma(label, statement, lines);
-        commit(alloc, proof, statements, items, mark, entered, item)
+        commit(
+            alloc,
+            &mut self.proof,
+            &mut self.statements,
+            &mut self.items,
+            mark,
+            entered,
+            item,
+        )
     }
 
     /// The statement of a label; None where no statement has it.

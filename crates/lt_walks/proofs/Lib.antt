@@ -1,0 +1,3 @@
+pub mod OneWalk
+pub mod EachWalk
+pub mod PlainWalkLemmas
