@@ -14,9 +14,9 @@ use Rattle.lt_store.proofs.TreeLemmas.{extends_same, extends_on}
 use Rattle.lt_kernel.specs.State.{State, sequents, Stays}
 use Rattle.lt_kernel.proofs.GrowingLemmas.{stays-on}
 use Rattle.lt_extend.specs.declared.drafts.Mark.{Mark}
-use Rattle.lt_extend.specs.declared.item_fault.ItemFault.{ItemFault}
-use Rattle.lt_extend.specs.declared.item_fault.ItemFault.TheVariants.{Memory}
-use Rattle.lt_extend.specs.Refusing.{Refuses, context_at}
+use Rattle.lt_conditions.specs.declared.item_fault.ItemFault.{ItemFault}
+use Rattle.lt_conditions.specs.declared.item_fault.ItemFault.TheVariants.{Memory}
+use Rattle.lt_conditions.specs.Refusing.{Refuses, context_at}
 use Rattle.lt_extend.specs.Standing.{StandsFor, StandsAs, IsReady, GoesOn, IsBehind}
 use Rattle.lt_extend.specs.Drafts.{IsMark, before}
 use Rattle.lt_extend.specs.Theories.{Holding, items_of, context_behind, IsInStep, IsHeld, IsAdded, KeepsLines, IsUnchanged, Adds, AddsLemma}

@@ -1,10 +1,8 @@
 pub mod Accepted
 pub mod Behind
-pub mod ClosedTerms
 pub mod Committed
+pub mod Counts
 pub mod LineOutcomes
-pub mod LooseTerms
-pub mod Refusals
 pub mod Stands
 pub mod StoredLines
 pub mod Tested

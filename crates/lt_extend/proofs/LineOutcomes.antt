@@ -21,9 +21,9 @@ use Rattle.lt_hol.specs.declared.line.Line.{Line}
 use Rattle.lt_store.specs.declared.node.Node.{Node}
 use Rattle.lt_kernel.specs.Sequents.{sequent_at, sequents_at}
 use Rattle.lt_kernel.specs.State.{State, step_of, Keeps, AddsLine}
-use Rattle.lt_extend.specs.declared.item_fault.ItemFault.{ItemFault}
-use Rattle.lt_extend.specs.declared.item_fault.ItemFault.TheVariants.{Duplicate, UnknownType, Arity, UnknownConst, TypeArgs, Unbound, Mismatch, NotBool, UnknownLabel, OpenTerm, LooseTypeVar, TypedefShape, InLine, BadLine, NotProved, Memory}
-use Rattle.lt_extend.specs.Refusing.{Refuses}
+use Rattle.lt_conditions.specs.declared.item_fault.ItemFault.{ItemFault}
+use Rattle.lt_conditions.specs.declared.item_fault.ItemFault.TheVariants.{Duplicate, UnknownType, Arity, UnknownConst, TypeArgs, Unbound, Mismatch, NotBool, UnknownLabel, OpenTerm, LooseTypeVar, TypedefShape, InLine, BadLine, NotProved, Memory}
+use Rattle.lt_conditions.specs.Refusing.{Refuses}
 use Rattle.lt_extend.specs.Standing.{StandsFor}
 use Rattle.lt_extend.specs.Storing.{IsStoredLine, StoresLine}
 use Rattle.lt_extend.specs.Deriving.{HasSequents, outcome_of, RefusesLine, line_fault, at_number, wrong_line, DerivesLine, DerivesLines}

@@ -12,7 +12,7 @@ use Rattle.lt_hol.specs.Faults.{with_type, with_const}
 use Rattle.lt_store.specs.Trees.{tree_at}
 use Rattle.lt_kernel.specs.State.{State, statements, Stays}
 use Rattle.lt_extend.specs.Standing.{StandsFor, StandsAs}
-use Rattle.lt_extend.specs.Refusing.{context_at}
+use Rattle.lt_conditions.specs.Refusing.{context_at}
 
 -- one context, told by the signature and the statements that are kept
 pub context-is : (ctx : Context) (s : State) (kept : List (Chars × TermTree)) → StandsAs ctx s kept → context_at s.signature kept ≡ ctx

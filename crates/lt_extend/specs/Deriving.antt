@@ -9,9 +9,9 @@ use Rattle.lt_nameless.specs.Nameless.{nameless_sequent}
 use Rattle.lt_kernel.specs.State.{State, sequents}
 use Rattle.lt_hol.specs.declared.type_fault.TypeFault as faults
 use Rattle.lt_hol.specs.declared.type_fault.TypeFault.{TypeFault}
-use Rattle.lt_extend.specs.declared.item_fault.ItemFault.{ItemFault}
-use Rattle.lt_extend.specs.declared.item_fault.ItemFault.TheVariants.{InLine, BadLine, Memory}
-use Rattle.lt_extend.specs.Refusing.{IsFault}
+use Rattle.lt_conditions.specs.declared.item_fault.ItemFault.{ItemFault}
+use Rattle.lt_conditions.specs.declared.item_fault.ItemFault.TheVariants.{InLine, BadLine, Memory}
+use Rattle.lt_conditions.specs.Refusing.{IsFault}
 
 -- The lines so far have these sequents, up to binder names.
 abbrev pub HasSequents : State → List Sequent → Type 0

@@ -1,15 +1,8 @@
-pub mod Applied
-pub mod Building
 pub mod Deriving
 pub mod Drafts
 pub mod Entering
-pub mod FreeNodes
-pub mod ItemTests
 pub mod Lemmas
-pub mod LooseNames
 pub mod Proving
-pub mod Refusing
 pub mod Standing
 pub mod Storing
-pub mod Testing
 pub mod Theories

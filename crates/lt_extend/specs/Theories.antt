@@ -9,8 +9,8 @@ use Rattle.lt_hol.specs.declared.item.Item.{Item}
 use Rattle.lt_hol.specs.Items.{item_of}
 use Rattle.lt_store.specs.Trees.{Extends}
 use Rattle.lt_kernel.specs.State.{State, sequents, Stays}
-use Rattle.lt_extend.specs.declared.item_fault.ItemFault.{ItemFault}
-use Rattle.lt_extend.specs.Refusing.{Refuses}
+use Rattle.lt_conditions.specs.declared.item_fault.ItemFault.{ItemFault}
+use Rattle.lt_conditions.specs.Refusing.{Refuses}
 use Rattle.lt_extend.specs.Standing.{StandsFor}
 
 -- The items so far, and the kernel.

@@ -7,8 +7,8 @@ ghost use Rattle.lt_kernel.specs.State.{Stays};
 ghost use Rattle.lt_extend.specs.Standing.{StandsFor};
 ghost use Rattle.lt_extend.specs.Deriving.{HasSequents, DerivesLine, DerivesLines, line_fault};
 
-use crate::item_fault::ItemFault;
 use crate::storing::store_line;
+use lt_conditions::ItemFault;
 use lt_hol::{Line, Lines, TypeFault};
 use lt_kernel::{Proof, RuleFault};
 use lt_store::TermStore;

@@ -9,12 +9,10 @@ ghost use Rattle.lt_hol.specs.Faults.{with_type, with_const};
 ghost use Rattle.lt_extend.specs.Entering.{IsNewType, AreNewStatements, with_new_type};
 ghost use Rattle.lt_extend.specs.Standing.{StandsAs, IsReady, GoesOn, IsBehind};
 
-use crate::building::{
-    abs_inverse_statement, definition_statement, fun, new_type, rep_inverse_statement,
-    rep_statement,
+use lt_conditions::{
+    Statements, abs_inverse_label, abs_inverse_statement, definition_label, definition_statement,
+    fun, new_type, rep_inverse_label, rep_inverse_statement, rep_label, rep_statement,
 };
-use crate::labels::{abs_inverse_label, definition_label, rep_inverse_label, rep_label};
-use crate::testing::Statements;
 use lt_hol::{Memory, Name, Term, TryCopy, Ty, TypeFault};
 use lt_kernel::Proof;
 use lt_store::{Id, TermStore};

@@ -11,8 +11,8 @@ ghost use Rattle.lt_extend.specs.Lemmas.{Proves};
 ghost use Rattle.lt_extend.specs.Standing.{StandsFor};
 
 use crate::derivation::add_lines;
-use crate::item_fault::ItemFault;
 use crate::proving::check_proved;
+use lt_conditions::ItemFault;
 use lt_hol::{Lines, Term};
 use lt_kernel::Proof;
 use lt_store::{Id, TermStore};

@@ -9,11 +9,11 @@ ghost use Rattle.lt_store.specs.Trees.{tree_at, trees, AllBelow};
 ghost use Rattle.std.specs.List.{All};
 ghost use Rattle.lt_kernel.specs.Sequents.{sequent_at, IsWithin};
 ghost use Rattle.lt_kernel.specs.State.{sequents};
-ghost use Rattle.lt_extend.specs.Refusing.{Tests, shown};
+ghost use Rattle.lt_conditions.specs.Refusing.{Tests, shown};
 ghost use Rattle.lt_extend.specs.Deriving.{HasSequents};
 ghost use Rattle.lt_extend.specs.Proving.{AreWhole, IsWholeSequent, unproved};
 
-use crate::item_fault::{ItemFault, TermSequent};
+use lt_conditions::{ItemFault, TermSequent};
 use lt_hol::{Ids, List, Memory, Terms};
 use lt_kernel::{Proof, Sequent};
 use lt_store::{Id, TermStore, from_store};

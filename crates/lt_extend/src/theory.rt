@@ -1,5 +1,5 @@
 //! A theory that grows item by item.
-ghost use Rattle.std.specs.Prelude.{◌≡◌, [], map, IfOk};
+ghost use Rattle.std.specs.Prelude.{◌≡◌, ◌≤◌, [], length, take, IfOk};
 ghost use Rattle.std.specs.Borrow.{Lends, sem};
 ghost use Rattle.std.specs.Option.{option_copied};
 ghost use Rattle.lt_kernel.specs.contracts.proof.Proof.{the_row as proof_row};
@@ -9,15 +9,15 @@ ghost use Rattle.lt_definitions.specs.Theory.{IsPlainTheory};
 ghost use Rattle.lt_hol.specs.declared.item.Item.TheVariants.{TypeDecl, ConstDecl, Axiom, Def, Typedef, Lemma};
 ghost use Rattle.lt_extend.specs.Theories.{items_of, context_behind, IsInStep, Adds, AddsLemma};
 
-use crate::drafts::{commit, mark_of};
+use crate::drafts::{commit, go_back, mark_before, mark_of, truncate};
 use crate::entering::{
     enter_const, enter_definition, enter_statement, enter_stored, enter_type, enter_typedef,
 };
-use crate::item_fault::ItemFault;
-use crate::item_tests::{test_const, test_definition, test_statement, test_type, test_typedef};
 use crate::lemmas::derive_lemma;
-use crate::testing::Statements;
 use indexmap::IndexMap;
+use lt_conditions::{
+    ItemFault, Statements, test_const, test_definition, test_statement, test_type, test_typedef,
+};
 use lt_hol::{Item, Items, Lines, List, Memory, Name, Names, Signature, Term, TryCopy, Ty};
 use lt_kernel::Proof;
 use lt_store::TermStore;
@@ -28,6 +28,7 @@ use std::marker::Model;
 /// Contracts see the items, and the kernel's state.
 #[derive(Drop)]
 pub struct Theory<S: TermStore> {
+    alloc: Global,
     items: Items,
     statements: Statements,
     proof: Proof<S>,
@@ -59,6 +60,7 @@ impl<S: TermStore> Theory<S> {
     {
         let signature = Signature::new(alloc)?;
         Ok(Theory {
+            alloc,
             items: List::new(alloc),
             statements: IndexMap::new(alloc),
             proof: Proof::new(alloc, signature, store),
@@ -288,6 +290,30 @@ impl<S: TermStore> Theory<S> {
             entered,
             item,
         )
+    }
+
+    /// How many items there are.
+    pub fn mark(&self) -> usize
+        ensures { result ≡ length self.now.items }
+    {
+        self.items.len()
+    }
+
+    /// Drops the items that came after the mark, with what they declare and state, and all lines.
+    ///
+    /// It takes time linear in the items that are dropped.
+    pub fn back(&mut self, mark: usize)
+        requires within { mark ≤ length self.old.items }
+        requires in_step { IsInStep self.old }
+        ensures items { self.new.items ≡ take mark self.old.items }
+        ensures lines { self.new.proof.steps ≡ [] }
+        ensures nodes { self.new.proof.nodes ≡ self.old.proof.nodes }
+        ensures in_step { IsInStep self.new }
+    {
+        let now = mark_of(&self.proof, &self.statements);
+        let then = mark_before(now, &self.items, mark);
+        go_back(&mut self.proof, &mut self.statements, then);
+        truncate(self.alloc, &mut self.items, mark);
     }
 
     /// The statement of a label; None where no statement has it.

@@ -1,6 +1,6 @@
 use Rattle.std.proofs.Common.{sym, subst, Err, Result}
 use Rattle.lt_hol.specs.Lines.{trees, rule_of}
-use Rattle.lt_extend.specs.declared.item_fault.ItemFault.{ItemFault}
+use Rattle.lt_conditions.specs.declared.item_fault.ItemFault.{ItemFault}
 use Rattle.lt_extend.specs.Deriving.{DerivesLine}
 use Rattle.lt_extend.proofs.LineOutcomes.{line-added, line-bad, line-refused}
 use Rattle.lt_extend.proofs.derivation.add_line.Goals as goal

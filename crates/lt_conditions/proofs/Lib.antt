@@ -1,0 +1,4 @@
+pub mod ClosedTerms
+pub mod LooseTerms
+pub mod Refusals
+pub mod TypedefTests
