@@ -50,12 +50,12 @@ each_on M t s at = each_by (suc (length at.ahead)) M t s at (omega arith)
 
 within : {S R : Type 0} (M : Meanings S R) → AreTotal M → (text : List ℕ) → length text ≤ M.most → HeaderOr M.form (left_of text)
     → (blocks : List (List Item)) × (end : End R) × Walks M text blocks end
-  unfolding Walks
+unfolding Walks
 within M t text h (inl (at, k)) = let w = each_on M t M.start at in (w.0, w.1, inr (inr (h, at, k, w.2)))
 within M t text h (inr (e, k)) = ([], wrong_header e, inr (inl (h, e, k, refl, refl)))
 
 past : {S R : Type 0} (M : Meanings S R) (text : List ℕ) → M.most < length text → (blocks : List (List Item)) × (end : End R) × Walks M text blocks end
-  unfolding Walks
+unfolding Walks
 past M text h = ([], too_long, inl (h, refl, refl))
 
 by_length : {S R : Type 0} (M : Meanings S R) → AreTotal M → (text : List ℕ) → (M.most < length text) ⊎ (length text ≤ M.most) → (blocks : List (List Item)) × (end : End R) × Walks M text blocks end

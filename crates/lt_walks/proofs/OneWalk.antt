@@ -42,7 +42,7 @@ one_on {S} M o s at (x ∷ xs) (y ∷ ys) e d (c, from, lines, to, b, n, later, 
     (λ i. adds.0 i ∷ rest.0 i, rest.1)
 
 pub one_walk : {S R : Type 0} (M : Meanings S R) → AreOne M → (text : List ℕ) (xs ys : List (List Item)) (e d : End R) → Walks M text xs e → Walks M text ys d → (xs ≡ ys) × (e ≡ d)
-  unfolding Walks
+unfolding Walks
 one_walk M o text xs ys e d (inl (l, p, q)) (inl (k, r, t)) = (p ∙ sym r, q ∙ sym t)
 one_walk M o text xs ys e d (inl (l, p, q)) (inr (inl (k, f, h, r, t))) = absurd (omega (arith, l, k))
 one_walk M o text xs ys e d (inl (l, p, q)) (inr (inr (k, w))) = absurd (omega (arith, l, k))

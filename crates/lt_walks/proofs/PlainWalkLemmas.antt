@@ -127,23 +127,23 @@ accepts ctx at (xs ∷ blocks) e (c, from, lines, to, b, n, later, a, w) =
         subst (λ (ys : List Item). AreExtensions ctx (ys ++ items_in blocks)) (sym p) (h, subst (λ (later : Context). AreExtensions later (items_in blocks)) q k)
 
 walks_accept : (text : List ℕ) (blocks : List (List Item)) (e : End Refusal) → Walks plain_items text blocks e → AreExtensions empty (items_in blocks)
-  unfolding Walks
+unfolding Walks
 walks_accept text blocks e (inl (l, p, q)) = subst (λ (bs : List (List Item)). AreExtensions empty (items_in bs)) (sym p) tt
 walks_accept text blocks e (inr (inl (l, f, h, p, q))) = subst (λ (bs : List (List Item)). AreExtensions empty (items_in bs)) (sym p) tt
 walks_accept text blocks e (inr (inr (l, at, m, w))) = accepts empty at blocks e w
 
 pub checks_accept : (text : List ℕ) (items : List Item) (e : End Refusal) → Checks text items e → IsPlainTheory items
-  unfolding Checks
+unfolding Checks
 checks_accept text items e (blocks, w, p) = (valid_is_extending empty items).1 (subst (AreExtensions empty) (sym p) (walks_accept text blocks e w))
 
 -- ---- each text has a walk, and one
 
 pub each_check : (text : List ℕ) → (items : List Item) × (end : End Refusal) × Checks text items end
-  unfolding Checks
+unfolding Checks
 each_check text = let w = each_walk plain_items plain_total text in (items_in w.0, w.1, (w.0, w.2, refl))
 
 pub one_check : (text : List ℕ) (items others : List Item) (e d : End Refusal) → Checks text items e → Checks text others d → (items ≡ others) × (e ≡ d)
-  unfolding Checks
+unfolding Checks
 one_check text items others e d (xs, w, p) (ys, v, q) = let same = one_walk plain_items plain_one text xs ys e d w v in (p ∙ ap items_in same.0 ∙ sym q, same.1)
 
 -- ---- where all is accepted, the text is that of the items
@@ -171,13 +171,13 @@ read_on text done ctx at (xs ∷ blocks) b (c, from, lines, to, z, n, later, a, 
     (read_on text (done ++ i.0 ∷ []) later z blocks next w)
 
 accepted_walk : (text : List ℕ) (blocks : List (List Item)) → Walks plain_items text blocks accepted → (length text ≤ plain_limit) × HasPlainItems text (items_in blocks)
-  unfolding Walks
+unfolding Walks
 accepted_walk text blocks (inl (l, p, q)) = absurd (cc q)
 accepted_walk text blocks (inr (inl (l, f, h, p, q))) = absurd (cc q)
 accepted_walk text blocks (inr (inr (l, at, m, w))) = (l, read_on text [] empty at blocks (header_begins plain_text text at m) w)
 
 pub accepted_check : (text : List ℕ) (items : List Item) → Checks text items accepted → (length text ≤ plain_limit) × HasPlainItems text items
-  unfolding Checks
+unfolding Checks
 accepted_check text items (blocks, w, p) =
     let h = accepted_walk text blocks w in
     (h.0, subst (HasPlainItems text) (sym p) h.1)
@@ -217,7 +217,7 @@ what_is_next text done rest ctx c k v (inl (more, full)) =
     let all : map item_command (done ++ rest) ≡ (map item_command done ++ c ∷ []) ++ more =
     one_reading plain_text text (map item_command (done ++ rest)) ((map item_command done ++ c ∷ []) ++ more) k full in
     let tail : map item_command rest ≡ c ∷ more = append_cancel_left (map item_command done) (map item_command rest) (c ∷ more)
-        (sym (map-append item_command done rest) ∙ all ∙ append_assoc (map item_command done) (c ∷ []) more) in
+    (sym (map-append item_command done rest) ∙ all ∙ append_assoc (map item_command done) (c ∷ []) more) in
     next_extension ctx rest c more tail v
 
 Goes : List ℕ → Left → Type 0
@@ -259,14 +259,14 @@ header_first text items k (inr (e, h)) = absurd (wrong_no_text plain_text text e
 
 valid_walk : (text : List ℕ) (items : List Item) → length text ≤ plain_limit → HasPlainItems text items → AreExtensions empty items
     → (blocks : List (List Item)) × Walks plain_items text blocks accepted × (items_in blocks ≡ items)
-  unfolding Walks
+unfolding Walks
 valid_walk text items l k v =
     let h = header_first text items k (header_or_fault plain_text (left_of text)) in
     let w = accept_by (suc (length h.0.ahead)) text [] items empty h.0 (omega arith) (header_begins plain_text text h.0 h.1) k v in
     (w.0, inr (inr (l, h.0, h.1, w.1)), w.2)
 
 pub valid_check : (text : List ℕ) (items : List Item) → length text ≤ plain_limit → HasPlainItems text items → IsPlainTheory items → Checks text items accepted
-  unfolding Checks
+unfolding Checks
 valid_check text items l k v = let w = valid_walk text items l k ((valid_is_extending empty items).0 v) in (w.0, w.1, sym w.2)
 
 pub accepted_exactly : (text : List ℕ) (items : List Item) → Checks text items accepted ↔ ((length text ≤ plain_limit) × HasPlainItems text items × IsPlainTheory items)
