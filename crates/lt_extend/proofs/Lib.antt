@@ -2,6 +2,7 @@ pub mod Accepted
 pub mod Behind
 pub mod Committed
 pub mod Counts
+pub mod Entered
 pub mod LineOutcomes
 pub mod Stands
 pub mod StoredLines

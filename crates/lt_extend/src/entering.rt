@@ -200,21 +200,12 @@ fn enter_stated<S: TermStore>(
     let first = rep_statement(alloc, &new, raw, predicate, rep)?;
     let second = rep_inverse_statement(alloc, &new, raw, abs, rep)?;
     let third = abs_inverse_statement(alloc, &new, raw, predicate, abs, rep)?;
-    enter_statement(alloc, proof, statements, &rep_label(alloc, name)?, &first)?;
-    enter_statement(
-        alloc,
-        proof,
-        statements,
-        &rep_inverse_label(alloc, name)?,
-        &second,
-    )?;
-    enter_statement(
-        alloc,
-        proof,
-        statements,
-        &abs_inverse_label(alloc, name)?,
-        &third,
-    )
+    let first_label = rep_label(alloc, name)?;
+    let second_label = rep_inverse_label(alloc, name)?;
+    let third_label = abs_inverse_label(alloc, name)?;
+    enter_statement(alloc, proof, statements, &first_label, &first)?;
+    enter_statement(alloc, proof, statements, &second_label, &second)?;
+    enter_statement(alloc, proof, statements, &third_label, &third)
 }
 
 /// Adds what a typedef declares and states.
