@@ -2,3 +2,4 @@ pub mod ClosedTerms
 pub mod LooseTerms
 pub mod Refusals
 pub mod TypedefTests
+pub mod NameSets

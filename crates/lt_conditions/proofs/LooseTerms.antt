@@ -74,9 +74,3 @@ found-joined p xs (y ∷ ys) = elim (bool_cases (has_name y xs)) [
 
 pub loose-variables : (allowed : List Chars) (t : TermTree) → first_loose allowed (term_variables t) ≡ loose_of allowed t
 loose-variables allowed t = found-joined (loose allowed) [] (term_names t)
-
--- .. and whether a name is among them
-
-or-true : (a b c : Bool) → ((a || b) || c) ≡ (a || (b || c))
-or-true true b c = refl
-or-true false b c = refl

@@ -1,6 +1,6 @@
 -- The tests of a typedef, group by group.
-use Rattle.std.proofs.Common.{◌≡◌, List, [], ◌∷◌, ◌++◌, Bool, true, false, ◌&&◌, not, is_some, is_none, Option, Some, None, Result, Ok, Err, refl, sym, ◌∙◌, ap, subst}
-use Rattle.lt_definitions.specs.Types.{Chars, same_name, are_distinct, found, TypeTree, bool, fun}
+use Rattle.std.proofs.Common.{◌≡◌, ℕ, nat_eq, length, List, [], ◌∷◌, ◌++◌, Bool, true, false, ◌&&◌, not, is_some, is_none, Option, Some, None, Result, Ok, Err, refl, sym, ◌∙◌, ap, subst}
+use Rattle.lt_definitions.specs.Types.{Chars, same_name, are_distinct, names_joined, found, TypeTree, bool, fun}
 use Rattle.lt_definitions.specs.Terms.{TermTree}
 use Rattle.lt_definitions.specs.Typing.{Fault, typed}
 use Rattle.lt_definitions.specs.Rules.{predicate_over}
@@ -8,7 +8,8 @@ use Rattle.lt_definitions.specs.Items.{Context, typedef_item, raw_type, rep_labe
 use Rattle.lt_definitions.specs.Theory.{Refusal, refusal, first_of, refused_where, unknown_statement, duplicate, typedef_shape, term_test, label_test, new_name, closed_test, variables_test, shape_test, is_applied}
 use Rattle.lt_conditions.specs.declared.item_fault.ItemFault.{ItemFault}
 use Rattle.lt_conditions.specs.Refusing.{Refuses}
-use Rattle.lt_conditions.specs.ItemTests.{is_shape, predicate_tests, IsPredicate, IsRawType}
+use Rattle.lt_conditions.specs.ItemTests.{is_shape, predicate_tests, HasShape, IsPredicate, IsRawType}
+use Rattle.lt_conditions.proofs.NameSets.{allowed-set, distinct-set}
 use Rattle.lt_conditions.proofs.Refusals.{refuses-next, refuses-first, refuses-front, refuses-back, refuses-same, none-next, first-behind, term-fine}
 
 -- the names, the labels, and the tests of the predicate
@@ -72,3 +73,39 @@ pub typedef-tested : (ctx : Context) (n : Chars) (params : List Chars) (p : Term
     → found l ctx.statements ≡ Some t → first_of (name_tests ctx n a b) ≡ None → first_of (label_tests ctx n) ≡ None → IsPredicate params p ty t r → IsRawType ctx n params p l a b r
 typedef-tested ctx n params p l a b ty t (Ok raw) h k m o (q, is) = (typedef-left ctx n params p l a b ty t h k m o ∙ q, h ∙ ap Ok is)
 typedef-tested ctx n params p l a b ty t (Err e) h k m o q = refuses-same (predicate_tests params p ty t) (refusal ctx (typedef_item n params p l a b)) e (sym (typedef-left ctx n params p l a b ty t h k m o)) q
+
+-- ---- the tests of the predicate
+
+pub predicate-open : (params : List Chars) (p : TermTree) (ty : TypeTree) (t : TermTree) (e : ItemFault) → Refuses (closed_test p) e → Refuses (predicate_tests params p ty t) e
+predicate-open params p ty t e r =
+    refuses-first (closed_test p) (variables_test params p ∷ refused_where (not (is_shape (are_distinct params) p ty t)) typedef_shape ∷ []) e r
+
+pub predicate-loose : (params keys : List Chars) (p : TermTree) (ty : TypeTree) (t : TermTree) (e : ItemFault) → keys ≡ names_joined [] params → closed_test p ≡ None
+    → Refuses (variables_test keys p) e → Refuses (predicate_tests params p ty t) e
+predicate-loose params keys p ty t e k c r =
+    refuses-next (closed_test p) (variables_test params p ∷ refused_where (not (is_shape (are_distinct params) p ty t)) typedef_shape ∷ []) e c
+    (refuses-first (variables_test params p) (refused_where (not (is_shape (are_distinct params) p ty t)) typedef_shape ∷ []) e
+    (refuses-same (variables_test keys p) (variables_test params p) e (ap (λ (ns : List Chars). variables_test ns p) k ∙ allowed-set params p) r))
+
+distinct-is : (params keys : List Chars) (m n : ℕ) (b : Bool) → keys ≡ names_joined [] params → m ≡ length keys → n ≡ length params → b ≡ nat_eq m n → b ≡ are_distinct params
+distinct-is params keys m n b k e f h = h ∙ (λ i. nat_eq ((e ∙ ap length k) i) (f i)) ∙ distinct-set params
+
+pub predicate-shaped : (params keys : List Chars) (p : TermTree) (ty : TypeTree) (t : TermTree) (b : Bool) (m n : ℕ) (r : Result TypeTree ItemFault) → keys ≡ names_joined [] params → m ≡ length keys
+    → n ≡ length params → b ≡ nat_eq m n → closed_test p ≡ None → variables_test keys p ≡ None → HasShape b p ty t r → IsPredicate params p ty t r
+predicate-shaped params keys p ty t b m n (Ok raw) k e f h c v s =
+    let d : b ≡ are_distinct params = distinct-is params keys m n b k e f h in
+    let vars : variables_test params p ≡ None = sym (ap (λ (ns : List Chars). variables_test ns p) k ∙ allowed-set params p) ∙ v in (
+      none-next (closed_test p) (variables_test params p ∷ refused_where (not (is_shape (are_distinct params) p ty t)) typedef_shape ∷ []) c
+          (none-next (variables_test params p) (refused_where (not (is_shape (are_distinct params) p ty t)) typedef_shape ∷ []) vars
+          (none-next (refused_where (not (is_shape (are_distinct params) p ty t)) typedef_shape) []
+          (ap (λ (x : Bool). refused_where (not x) typedef_shape) (ap (λ (x : Bool). is_shape x p ty t) (sym d) ∙ s.0)) refl)),
+      s.1,
+    )
+predicate-shaped params keys p ty t b m n (Err x) k e f h c v s =
+    let d : b ≡ are_distinct params = distinct-is params keys m n b k e f h in
+    let vars : variables_test params p ≡ None = sym (ap (λ (ns : List Chars). variables_test ns p) k ∙ allowed-set params p) ∙ v in
+    refuses-next (closed_test p) (variables_test params p ∷ refused_where (not (is_shape (are_distinct params) p ty t)) typedef_shape ∷ []) x c
+    (refuses-next (variables_test params p) (refused_where (not (is_shape (are_distinct params) p ty t)) typedef_shape ∷ []) x vars
+    (refuses-first (refused_where (not (is_shape (are_distinct params) p ty t)) typedef_shape) [] x
+    (refuses-same (refused_where (not (is_shape b p ty t)) typedef_shape) (refused_where (not (is_shape (are_distinct params) p ty t)) typedef_shape) x
+    (ap (λ (y : Bool). refused_where (not (is_shape y p ty t)) typedef_shape) d) s)))

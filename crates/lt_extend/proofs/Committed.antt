@@ -1,28 +1,37 @@
 -- An item that is added behind what it declares and states, or dropped again.
 use Rattle.std.proofs.Common.{◌≡◌, ℕ, List, [], ◌∷◌, ◌++◌, map, take, None, Result, Ok, Err, OnOk, OnErr, IfErr, IsOk, refl, sym, ◌∙◌, ap, subst}
 use Rattle.std.proofs.lemmas.List.{map-append}
-use Rattle.lt_definitions.specs.Types.{Chars}
+use Rattle.lt_definitions.specs.Types.{Chars, TypeTree, bool, found}
 use Rattle.lt_definitions.specs.Terms.{TermTree}
+use Rattle.lt_definitions.specs.Typing.{type_fault}
+use Rattle.lt_definitions.specs.Rules.{Rule}
+use Rattle.lt_definitions.specs.Derivations.{derived}
 use Rattle.lt_definitions.specs.Items as theory
 use Rattle.lt_definitions.specs.Items.{Context, empty, context_of, with_item}
-use Rattle.lt_definitions.specs.Theory.{Refusal, refusal, IsPlainTheory}
+use Rattle.lt_definitions.specs.Theory.{refusal, IsPlainTheory, statement_test, new_name, closed_test, proof_test}
+use Rattle.lt_nameless.specs.Nameless.{nameless, IsWhole}
+use Rattle.lt_nameless.proofs.ClosedForms.{typed_is_whole}
+use Rattle.lt_nameless.proofs.Refusals.{refusal-extension}
 use Rattle.lt_types.specs.declared.memory.Memory.{Memory as OutOfMemory}
 use Rattle.lt_hol.specs.declared.item.Item.{Item}
 use Rattle.lt_hol.specs.Items.{item_of}
-use Rattle.lt_store.specs.Trees.{Extends}
+use Rattle.lt_hol.specs.Faults.{with_type, with_const}
+use Rattle.lt_store.specs.Trees.{tree_at, Extends}
 use Rattle.lt_store.proofs.TreeLemmas.{extends_same, extends_on}
-use Rattle.lt_kernel.specs.State.{State, sequents, Stays}
+use Rattle.lt_kernel.specs.State.{State, sequents, Stays, Keeps}
 use Rattle.lt_kernel.proofs.GrowingLemmas.{stays-on}
-use Rattle.lt_extend.specs.declared.drafts.Mark.{Mark}
 use Rattle.lt_conditions.specs.declared.item_fault.ItemFault.{ItemFault}
 use Rattle.lt_conditions.specs.declared.item_fault.ItemFault.TheVariants.{Memory}
 use Rattle.lt_conditions.specs.Refusing.{Refuses, context_at}
+use Rattle.lt_conditions.proofs.Refusals.{refuses-same, refuses-front, first-behind, first-alone}
+use Rattle.lt_extend.specs.declared.drafts.Mark.{Mark}
 use Rattle.lt_extend.specs.Standing.{StandsFor, StandsAs, IsReady, GoesOn, IsBehind}
 use Rattle.lt_extend.specs.Drafts.{IsMark, before}
 use Rattle.lt_extend.specs.Theories.{Holding, items_of, context_behind, IsInStep, IsHeld, IsAdded, KeepsLines, IsUnchanged, Adds, AddsLemma}
 use Rattle.lt_extend.proofs.Accepted.{context-more, valid-more}
-use Rattle.lt_extend.proofs.Behind.{back-stays, kept-back}
-use Rattle.lt_extend.proofs.Stands.{context-is, stands-still}
+use Rattle.lt_extend.proofs.Behind.{behind-none, behind-same, behind-type, behind-const, goes-none, back-stays, kept-back}
+use Rattle.lt_extend.proofs.Entered.{IsStoredUnder, stored-behind, stored-stands, then-ok}
+use Rattle.lt_extend.proofs.Stands.{context-is, stands-still, stands-type, stands-const}
 
 pub stays-same : (s : State) → Stays s s
 stays-same s = record { nodes = extends_same s.nodes; signature = refl; named = refl; statements = refl }
@@ -148,3 +157,72 @@ pub done-lemma : (items items2 : List Item) (item : Item) (s0 s s2 : State) (kep
     → IsDone items item s0 s s2 items2 kept2 result → AddsLemma (record { items = items; proof = s0 }) item (record { items = items2; proof = s2 }) result
 done-lemma items items2 item s0 s s2 kept2 (Ok _) n d = (d.added, d.lines.steps ∙ n)
 done-lemma items items2 item s0 s s2 kept2 (Err e) n d = (d.refused, d.unchanged)
+
+-- ---- what each item enters
+
+pub entered-by : (ctx : Context) (item : theory.Item) (s s1 : State) (kept kept1 : List (Chars × TermTree)) (entered : Result (Unit {0}) OutOfMemory) → StandsAs ctx s kept → IsBehind s s1 → GoesOn kept kept1
+    → OnOk entered ((c : Context) → StandsAs c s kept → StandsAs (with_item c item) s1 kept1) → IsEntered ctx item s s1 kept kept1 entered
+entered-by ctx item s s1 kept kept1 entered st b f h = record {
+  behind = b;
+  front = f;
+  stands = then-ok entered ((c : Context) → StandsAs c s kept → StandsAs (with_item c item) s1 kept1) (StandsAs (with_item ctx item) s1 kept1) (λ g. g ctx st) h;
+}
+
+pub entered-type : (ctx : Context) (s s1 : State) (kept : List (Chars × TermTree)) (n : Chars) (k : ℕ) (entered : Result (Unit {0}) OutOfMemory) → StandsAs ctx s kept
+    → OnOk entered (s1 ≡ record s { signature = with_type n k s.signature }) → OnErr entered (s1 ≡ s) → IsEntered ctx (theory.type_item n k) s s1 kept kept entered
+entered-type ctx s s1 kept n k (Ok _) st e f = record {
+  behind = behind-type s s1 n k e;
+  front = goes-none kept;
+  stands = record { stands = stands-type ctx s s1 n k st.stands e; statements = st.statements };
+}
+entered-type ctx s s1 kept n k (Err x) st e f = record { behind = behind-same s s1 f; front = goes-none kept; stands = tt }
+
+pub entered-const : (ctx : Context) (s s1 : State) (kept : List (Chars × TermTree)) (n : Chars) (ty : TypeTree) (entered : Result (Unit {0}) OutOfMemory) → StandsAs ctx s kept
+    → OnOk entered (s1 ≡ record s { signature = with_const n ty s.signature }) → OnErr entered (s1 ≡ s) → IsEntered ctx (theory.const_item n ty) s s1 kept kept entered
+entered-const ctx s s1 kept n ty (Ok _) st e f = record {
+  behind = behind-const s s1 n ty e;
+  front = goes-none kept;
+  stands = record { stands = stands-const ctx s s1 n ty st.stands e; statements = st.statements };
+}
+entered-const ctx s s1 kept n ty (Err x) st e f = record { behind = behind-same s s1 f; front = goes-none kept; stands = tt }
+
+keeps-same : (s : State) → Keeps s s
+keeps-same s = record { stays = stays-same s; steps = refl; sequents = refl }
+
+pub entered-lemma : (ctx : Context) (s s1 : State) (kept kept1 : List (Chars × TermTree)) (l : Chars) (t : TermTree) (lines : List (Rule TermTree)) (id : ℕ) (entered : Result (Unit {0}) OutOfMemory)
+    → StandsAs ctx s kept → tree_at s.nodes id ≡ nameless [] t → IsStoredUnder s s1 kept kept1 l t id entered → IsEntered ctx (theory.lemma_item l t lines) s s1 kept kept1 entered
+entered-lemma ctx s s1 kept kept1 l t lines id entered st is h =
+    entered-by ctx (theory.lemma_item l t lines) s s1 kept kept1 entered st (stored-behind s s s1 kept kept1 l t id entered (behind-none s) h) h.front
+    (stored-stands s s s1 kept kept1 l t id entered (keeps-same s) is h)
+
+-- ---- what the tests leave
+
+pub new-type-name : (ctx : Context) (n : Chars) (k : ℕ) → refusal ctx (theory.type_item n k) ≡ None → found n ctx.signature.types ≡ None
+new-type-name ctx n k e = refusal-extension ctx (theory.type_item n k) e
+
+pub new-const-name : (ctx : Context) (n : Chars) (ty : TypeTree) → refusal ctx (theory.const_item n ty) ≡ None → (type_fault ctx.signature ty ≡ None) × (found n ctx.signature.consts ≡ None)
+new-const-name ctx n ty e = refusal-extension ctx (theory.const_item n ty) e
+
+pub new-statement-label : (ctx : Context) (l : Chars) (t : TermTree) → refusal ctx (theory.axiom_item l t) ≡ None → (IsWhole 0 (nameless [] t)) × (found l ctx.statements ≡ None)
+new-statement-label ctx l t e =
+    let h = refusal-extension ctx (theory.axiom_item l t) e in
+    (typed_is_whole ctx.signature t bool h.0.0, h.1)
+
+-- a lemma is refused as an axiom is, or else by its lines
+pub lemma-first : (ctx : Context) (l : Chars) (t : TermTree) (lines : List (Rule TermTree)) (e : ItemFault) → Refuses (refusal ctx (theory.axiom_item l t)) e → Refuses (refusal ctx (theory.lemma_item l t lines)) e
+lemma-first ctx l t lines e h =
+    refuses-front (statement_test ctx t ∷ new_name ctx.statements l ∷ closed_test t ∷ []) (proof_test t (derived ctx.signature ctx.statements [] lines) ∷ []) e h
+
+lemma-rest : (ctx : Context) (l : Chars) (t : TermTree) (lines : List (Rule TermTree)) → refusal ctx (theory.axiom_item l t) ≡ None
+    → refusal ctx (theory.lemma_item l t lines) ≡ proof_test t (derived ctx.signature ctx.statements [] lines)
+lemma-rest ctx l t lines e =
+    first-behind (statement_test ctx t ∷ new_name ctx.statements l ∷ closed_test t ∷ []) (proof_test t (derived ctx.signature ctx.statements [] lines) ∷ []) e
+    ∙ first-alone (proof_test t (derived ctx.signature ctx.statements [] lines))
+
+pub lemma-later : (ctx : Context) (l : Chars) (t : TermTree) (lines : List (Rule TermTree)) (e : ItemFault) → refusal ctx (theory.axiom_item l t) ≡ None
+    → Refuses (proof_test t (derived ctx.signature ctx.statements [] lines)) e → Refuses (refusal ctx (theory.lemma_item l t lines)) e
+lemma-later ctx l t lines e n h = refuses-same (proof_test t (derived ctx.signature ctx.statements [] lines)) (refusal ctx (theory.lemma_item l t lines)) e (sym (lemma-rest ctx l t lines n)) h
+
+pub lemma-accepted : (ctx : Context) (l : Chars) (t : TermTree) (lines : List (Rule TermTree)) → refusal ctx (theory.axiom_item l t) ≡ None
+    → proof_test t (derived ctx.signature ctx.statements [] lines) ≡ None → refusal ctx (theory.lemma_item l t lines) ≡ None
+lemma-accepted ctx l t lines n h = lemma-rest ctx l t lines n ∙ h
