@@ -3,3 +3,4 @@ pub mod LooseTerms
 pub mod Refusals
 pub mod TypedefTests
 pub mod NameSets
+pub mod Fronts

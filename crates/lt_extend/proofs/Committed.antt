@@ -226,3 +226,23 @@ lemma-later ctx l t lines e n h = refuses-same (proof_test t (derived ctx.signat
 pub lemma-accepted : (ctx : Context) (l : Chars) (t : TermTree) (lines : List (Rule TermTree)) → refusal ctx (theory.axiom_item l t) ≡ None
     → proof_test t (derived ctx.signature ctx.statements [] lines) ≡ None → refusal ctx (theory.lemma_item l t lines) ≡ None
 lemma-accepted ctx l t lines n h = lemma-rest ctx l t lines n ∙ h
+
+-- ---- a theory from within and from without
+
+pub in-step-inside : (items : List Item) (s : State) (h : Holding) → record { items = items; proof = s } ≡ h → IsInStep h → StandsFor (context_behind items) s
+in-step-inside items s h e st = subst IsInStep (sym e) st
+
+pub adds-outside : (items : List Item) (s : State) (h new : Holding) (item : Item) (r : Result (Unit {0}) ItemFault) → record { items = items; proof = s } ≡ h → Adds (record { items = items; proof = s }) item new r
+    → Adds h item new r
+adds-outside items s h new item r e a = subst (λ (k : Holding). Adds k item new r) e a
+
+pub lemma-outside : (items : List Item) (s : State) (h new : Holding) (item : Item) (r : Result (Unit {0}) ItemFault) → record { items = items; proof = s } ≡ h → AddsLemma (record { items = items; proof = s }) item new r
+    → AddsLemma h item new r
+lemma-outside items s h new item r e a = subst (λ (k : Holding). AddsLemma k item new r) e a
+
+-- refused by a test
+pub adds-refused : (items : List Item) (s : State) (kept : List (Chars × TermTree)) (h : Holding) (item : Item) (e : ItemFault) → record { items = items; proof = s } ≡ h → IsHeld items kept → IsInStep h
+    → Refuses (refusal (context_at s.signature kept) (item_of item)) e → Adds h item h (Err e)
+adds-refused items s kept h item e v held st r =
+    let here : Refuses (refusal (context_behind items) (item_of item)) e = refused-here items s kept (item_of item) e held (in-step-inside items s h v st) r in
+    subst (λ (k : Holding). Adds k item k (Err e)) v (here, unchanged items s s (stays-same s))
