@@ -1,5 +1,6 @@
 -- What the tests of a typedef answer.
-use Rattle.std.specs.Prelude.{◌≡◌, Bor, List, [], ◌∷◌, Bool, true, ◌&&◌, not, is_some, Option, Some, None, Result, Ok, Err}
+use Rattle.std.specs.Borrow.{Bor}
+use Rattle.std.specs.Prelude.{◌≡◌, List, [], ◌∷◌, Bool, true, ◌&&◌, not, is_some, Option, Some, None, Result, Ok, Err}
 use Rattle.lt_definitions.specs.Types.{Chars, TypeTree, bool, fun, are_distinct, found}
 use Rattle.lt_definitions.specs.Terms.{TermTree}
 use Rattle.lt_definitions.specs.Typing.{typed}

@@ -1,5 +1,5 @@
 //! The statements that definitions and typedefs add, as terms.
-ghost use Rattle.std.specs.Prelude.{◌≡◌, [], ◌∷◌, ◌++◌, map, length, true, IfOk};
+ghost use Rattle.std.specs.Prelude.{◌≡◌, ◌≤◌, [], ◌∷◌, ◌++◌, map, length, true, IfOk};
 ghost use Rattle.std.specs.Str.{chars};
 ghost use Rattle.lt_definitions.specs.Characters.{is_name};
 ghost use Rattle.lt_definitions.specs.Types.{fun, type_variable, row};

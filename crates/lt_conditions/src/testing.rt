@@ -1,5 +1,5 @@
 //! The tests that items have in common.
-ghost use Rattle.std.specs.Prelude.{◌≡◌, Ok as Fine};
+ghost use Rattle.std.specs.Prelude.{◌≡◌, [], Ok as Fine};
 ghost use Rattle.lt_definitions.specs.Types.{same_type, bool, row};
 ghost use Rattle.lt_definitions.specs.Typing.{type_fault, typed};
 ghost use Rattle.lt_definitions.specs.Derivations.{term_fault};

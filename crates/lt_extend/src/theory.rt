@@ -2,8 +2,6 @@
 ghost use Rattle.std.specs.Prelude.{◌≡◌, ◌≤◌, [], length, take, IfOk};
 ghost use Rattle.std.specs.Borrow.{Lends, sem};
 ghost use Rattle.std.specs.Option.{option_copied};
-ghost use Rattle.lt_kernel.specs.contracts.proof.Proof.{the_row as proof_row};
-ghost use Rattle.lt_extend.specs.contracts.theory.Theory.{the_row};
 ghost use Rattle.lt_definitions.specs.Types.{found};
 ghost use Rattle.lt_definitions.specs.Theory.{IsPlainTheory};
 ghost use Rattle.lt_hol.specs.declared.item.Item.TheVariants.{TypeDecl, ConstDecl, Axiom, Def, Typedef, Lemma};
@@ -344,12 +342,18 @@ impl<S: TermStore> Theory<S> {
         ensures valid { IsPlainTheory (items_of result) }
     {
         let Theory {
+            alloc: _,
             items,
             statements: _,
             proof: _,
         } = self;
         items
     }
+}
+
+impl<S: TermStore> Theory<S> {
+    ghost use Rattle.lt_kernel.specs.contracts.proof.Proof.{the_row as proof_row};
+    ghost use Rattle.lt_extend.specs.contracts.theory.Theory.{the_row};
 
     /// The kernel, to derive lines.
     pub fn proof(&mut self) -> &mut Proof<S>
