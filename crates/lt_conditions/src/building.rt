@@ -8,14 +8,14 @@ ghost use Rattle.lt_conditions.specs.Building.{equated_bound, closed_up};
 ghost use Rattle.lt_definitions.specs.Items.{declared, definition_statement, new_type, rep_statement, rep_inverse_statement, abs_inverse_statement};
 
 use crate::variables::own_variables;
-use lt_hol::{List, Memory, Name, Term, TermBuilder, TryCopy, Ty, variables};
+use lt_hol::{List, Memory, Name, Names, Term, TermBuilder, TryCopy, Ty, variables};
 use std::alloc::Global;
 
 /// A typedef's new type over its parameters.
-pub fn new_type(alloc: Global, name: &Name, params: &[Name]) -> Result<Ty, Memory>
+pub fn new_type(alloc: Global, name: &Name, params: &Names) -> Result<Ty, Memory>
     ensures { IfOk result (λ t. t ≡ new_type name.now params.now) }
 {
-    let args = variables(alloc, params)?;
+    let args = variables(alloc, params.as_slice())?;
     Ok(Ty::con(alloc, name.copy(alloc)?, args)?)
 }
 

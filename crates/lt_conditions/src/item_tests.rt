@@ -15,7 +15,7 @@ use crate::testing::{
 };
 use crate::variables::{name_set, type_variables};
 use lt_formulas::predicate_over;
-use lt_hol::{Name, Signature, Term, TryCopy, Ty};
+use lt_hol::{Name, Names, Signature, Term, TryCopy, Ty};
 use std::alloc::Global;
 
 /// The tests of a type that is declared.
@@ -138,7 +138,7 @@ pub fn test_typedef(
     sig: &Signature,
     statements: &Statements,
     name: &Name,
-    params: &[Name],
+    params: &Names,
     predicate: &Term,
     by: &Name,
     abs: &Name,
@@ -246,7 +246,7 @@ fn check_typedef_labels(
 /// the shape. It answers the type that the predicate is over.
 fn check_predicate(
     alloc: Global,
-    params: &[Name],
+    params: &Names,
     predicate: &Term,
     found: Ty,
     inhabited: &Term,
@@ -257,7 +257,7 @@ fn check_predicate(
         Ok(()) => {}
         Err(fault) => return Err(fault),
     }
-    let allowed = name_set(alloc, params)?;
+    let allowed = name_set(alloc, params.as_slice())?;
     match check_variables(alloc, &allowed, predicate) {
         Ok(()) => {}
         Err(fault) => return Err(fault),

@@ -246,3 +246,36 @@ pub adds-refused : (items : List Item) (s : State) (kept : List (Chars × TermTr
 adds-refused items s kept h item e v held st r =
     let here : Refuses (refusal (context_behind items) (item_of item)) e = refused-here items s kept (item_of item) e held (in-step-inside items s h v st) r in
     subst (λ (k : Holding). Adds k item k (Err e)) v (here, unchanged items s s (stays-same s))
+
+-- refused for want of memory, before anything is added
+pub adds-memory : (h : Holding) (item : Item) (e : ItemFault) → e ≡ Memory → Adds h item h (Err e)
+adds-memory h item e is = subst (λ (q : ItemFault). Adds h item h (Err q)) (sym is) (tt, record { items = refl; proof = stays-same h.proof })
+
+-- ---- lemmas that are refused
+
+pub lemma-refused : (items : List Item) (s : State) (kept : List (Chars × TermTree)) (h : Holding) (l : Chars) (t : TermTree) (item : Item) (lines : List (Rule TermTree)) (e : ItemFault)
+    → record { items = items; proof = s } ≡ h → IsHeld items kept → IsInStep h → item_of item ≡ theory.lemma_item l t lines
+    → Refuses (refusal (context_at s.signature kept) (theory.axiom_item l t)) e → AddsLemma h item h (Err e)
+lemma-refused items s kept h l t item lines e v held st is r =
+    let here : Refuses (refusal (context_behind items) (item_of item)) e =
+    subst (λ (i : theory.Item). Refuses (refusal (context_behind items) i) e) (sym is)
+    (lemma-first (context_behind items) l t lines e (refused-here items s kept (theory.axiom_item l t) e held (in-step-inside items s h v st) r)) in
+    subst (λ (k : Holding). AddsLemma k item k (Err e)) v (here, unchanged items s s (stays-same s))
+
+pub lemma-failed : (items : List Item) (s s1 : State) (kept : List (Chars × TermTree)) (h : Holding) (l : Chars) (t : TermTree) (item : Item) (lines : List (Rule TermTree)) (e : ItemFault)
+    → record { items = items; proof = s } ≡ h → IsHeld items kept → IsInStep h → item_of item ≡ theory.lemma_item l t lines
+    → refusal (context_at s.signature kept) (theory.axiom_item l t) ≡ None → Stays s s1
+    → ((ctx : Context) → StandsFor ctx s → Refuses (proof_test t (derived ctx.signature ctx.statements [] lines)) e)
+    → AddsLemma h item (record { items = items; proof = s1 }) (Err e)
+lemma-failed items s s1 kept h l t item lines e v held st is n stays r =
+    let inside = in-step-inside items s h v st in
+    let here : Refuses (refusal (context_behind items) (item_of item)) e =
+    subst (λ (i : theory.Item). Refuses (refusal (context_behind items) i) e) (sym is)
+    (lemma-later (context_behind items) l t lines e (accepted-here items s kept (theory.axiom_item l t) held inside n) (r (context_behind items) inside)) in
+    subst (λ (k : Holding). AddsLemma k item (record { items = items; proof = s1 }) (Err e)) v (here, unchanged items s s1 stays)
+
+pub stays-cleared : (old mid new : State) → Stays old mid → new ≡ record mid { steps = [] } → Stays old new
+stays-cleared old mid new s e = subst (Stays old) (sym e) (record { nodes = s.nodes; signature = s.signature; named = s.named; statements = s.statements })
+
+pub cleared-stays : (old mid new : State) → mid ≡ record old { steps = [] } → Stays mid new → Stays old new
+cleared-stays old mid new e s = stays-on old mid new (stays-cleared old old mid (stays-same old) e) s

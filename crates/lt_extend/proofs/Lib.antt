@@ -8,3 +8,4 @@ pub mod Stands
 pub mod StoredLines
 pub mod Tested
 pub mod Unreached
+pub mod WholeLines

@@ -13,7 +13,7 @@ use lt_conditions::{
     Statements, abs_inverse_label, abs_inverse_statement, definition_label, definition_statement,
     fun, new_type, rep_inverse_label, rep_inverse_statement, rep_label, rep_statement,
 };
-use lt_hol::{Memory, Name, Term, TryCopy, Ty, TypeFault};
+use lt_hol::{Memory, Name, Names, Term, TryCopy, Ty, TypeFault};
 use lt_kernel::Proof;
 use lt_store::{Id, TermStore};
 use std::alloc::Global;
@@ -153,7 +153,7 @@ fn enter_typed<S: TermStore>(
     alloc: Global,
     proof: &mut Proof<S>,
     name: &Name,
-    params: &[Name],
+    params: &Names,
     raw: &Ty,
     abs: &Name,
     rep: &Name,
@@ -180,7 +180,7 @@ fn enter_stated<S: TermStore>(
     proof: &mut Proof<S>,
     statements: &mut Statements,
     name: &Name,
-    params: &[Name],
+    params: &Names,
     predicate: &Term,
     raw: &Ty,
     abs: &Name,
@@ -214,7 +214,7 @@ pub(crate) fn enter_typedef<S: TermStore>(
     proof: &mut Proof<S>,
     statements: &mut Statements,
     name: &Name,
-    params: &[Name],
+    params: &Names,
     predicate: &Term,
     raw: &Ty,
     _by: &Name,

@@ -204,13 +204,12 @@ impl<S: TermStore> Theory<S> {
         ensures in_step { IsInStep self.new }
     {
         let sig = self.proof.signature();
-        let names = params.as_slice();
         let tested = test_typedef(
             alloc,
             sig,
             &self.statements,
             &name,
-            names,
+            &params,
             &pred,
             by,
             &abs,
@@ -227,7 +226,7 @@ impl<S: TermStore> Theory<S> {
             &mut self.proof,
             &mut self.statements,
             &name,
-            names,
+            &params,
             &pred,
             &raw,
             by,

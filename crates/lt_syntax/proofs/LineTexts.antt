@@ -42,8 +42,8 @@ pub all-hyps : (hyps : List TermTree) (i : ℕ) → i ≤ length hyps → length
 all-hyps hyps i up down = let same : i ≡ length hyps = omega arith in ap later_hyps (ap (λ k. take k hyps) same ∙ take-length hyps)
 
 -- hypotheses, the first one apart
-pub hyps-apart : (h : TermTree) (hyps : List TermTree) → printed_hyps (h ∷ hyps) ≡ printed_term [] h ++ (later_hyps hyps ++ codes " ")
-hyps-apart h [] = refl
-hyps-apart h (k ∷ hyps) =
-    ap (λ s. printed_term [] h ++ (codes ", " ++ s)) (hyps-apart k hyps)
+pub hyps_apart : (h : TermTree) (hyps : List TermTree) → printed_hyps (h ∷ hyps) ≡ printed_term [] h ++ (later_hyps hyps ++ codes " ")
+hyps_apart h [] = refl
+hyps_apart h (k ∷ hyps) =
+    ap (λ s. printed_term [] h ++ (codes ", " ++ s)) (hyps_apart k hyps)
     ∙ ap (λ s. printed_term [] h ++ s) (sym (append_assoc (codes ", " ++ printed_term [] k) (later_hyps hyps) (codes " ")))

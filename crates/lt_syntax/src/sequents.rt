@@ -21,17 +21,24 @@ pub fn print_sequent(alloc: Global, hyps: &[Term], concl: &Term) -> Result<Strin
 }
 
 /// Adds hypotheses with commas between, and a space behind.
+#[tactic(auto, using(crate::proofs::LineTexts::hyps_apart))]
 fn write_hyps(alloc: Global, text: &mut Text, hyps: &[Term]) -> Result<(), Memory>
     ensures { OnOk result (text.new ≡ text.old ++ printed_hyps hyps.now) }
 {
     match hyps {
         [] => Ok(()),
-        [first, later @ ..] => {
-            write_term(alloc, text, first)?;
-            write_later(alloc, text, later)?;
-            Ok(text.signs(" ")?)
-        }
+        [first, later @ ..] => Ok(write_some(alloc, text, first, later)?),
     }
+}
+
+/// Adds a hypothesis and others behind it, and a space.
+fn write_some(alloc: Global, text: &mut Text, first: &Term, later: &[Term]) -> Result<(), Memory>
+    ensures { OnOk result (text.new
+        ≡ text.old ++ (printed_term [] first.now ++ (later_hyps later.now ++ codes " "))) }
+{
+    write_term(alloc, text, first)?;
+    write_later(alloc, text, later)?;
+    Ok(text.signs(" ")?)
 }
 
 /// Adds hypotheses, each behind a comma.
