@@ -1,12 +1,15 @@
 -- How many types, constants and statements items add.
-use Rattle.std.proofs.Common.{◌≡◌, ℕ, suc, ◌+◌, ◌≤◌, ◌<◌, List, [], ◌∷◌, ◌++◌, length, map, take, drop, None, Ok, refl, sym, ◌∙◌, ap, subst, arith, length-append}
-use Rattle.std.proofs.lemmas.List.{map-append, take-append-drop}
+use Rattle.std.proofs.Common.{◌≡◌, ℕ, zero, suc, slice_get, Some, ◌+◌, ◌≤◌, ◌<◌, List, [], ◌∷◌, ◌++◌, length, map, take, drop, None, Ok, refl, sym, ◌∙◌, ap, subst, arith, length-append}
+use Rattle.std.proofs.lemmas.List.{map-append, take-append-drop, drop_all}
 use Rattle.lt_definitions.specs.Types.{TypeTree, bool, fun}
 use Rattle.lt_definitions.specs.Typing.{typed}
 use Rattle.lt_definitions.specs.Items.{Item, type_item, const_item, axiom_item, def_item, typedef_item, lemma_item, Context, empty, with_item, context_of}
 use Rattle.lt_definitions.specs.Theory.{refusal, AreValid, IsPlainTheory}
 use Rattle.lt_nameless.proofs.Typings.{has-typed}
 use Rattle.lt_nameless.proofs.Refusals.{refusal-extension}
+use Rattle.lt_hol.specs.declared.item.Item.{Item as Entry}
+use Rattle.lt_hol.specs.Items.{item_of}
+use Rattle.lt_extend.specs.Theories.{items_of}
 use Rattle.lt_extend.specs.declared.drafts.Mark.{Mark}
 use Rattle.lt_extend.specs.Drafts.{IsMark, IsMarkOf, Additions, additions, IsAtLeast, IsWithout}
 use Rattle.lt_extend.proofs.Accepted.{typedef-adds}
@@ -102,3 +105,16 @@ mark-last ctx mark m = record {
   named = omega (arith, m.named);
   kept = omega (arith, m.kept);
 }
+
+-- ---- the items in two parts
+
+pub parted-at : (items : List Entry) (n : ℕ) → items_of items ≡ items_of (take n items) ++ items_of (drop n items)
+parted-at items n = ap items_of (sym (take-append-drop n items)) ∙ map-append item_of (take n items) (drop n items)
+
+pub rest-at : (items : List Entry) (i : ℕ) (x : Entry) → slice_get items i ≡ Some x → items_of (drop i items) ≡ item_of x ∷ items_of (drop (i + 1) items)
+rest-at [] i x e = absurd (cc e)
+rest-at (y ∷ ys) zero x e = let same : y ≡ x = cc e in ap (λ z. item_of z ∷ items_of ys) same
+rest-at (y ∷ ys) (suc i) x e = rest-at ys i x e
+
+pub none-left : (items : List Entry) (i : ℕ) → length items ≤ i → items_of (drop i items) ≡ []
+none-left items i h = ap items_of (drop_all i items h)
