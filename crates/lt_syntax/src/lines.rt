@@ -6,6 +6,7 @@ ghost use Rattle.lt_definitions.specs.Printing.{printed_item, printed_lines, pri
 ghost use Rattle.lt_hol.specs.Items.{item_of};
 ghost use Rattle.lt_hol.specs.Lines.{trees, rule_of, rules_of, is_within};
 ghost use Rattle.lt_syntax.specs.ItemText.{printed_end};
+ghost use Rattle.lt_syntax.specs.Signs.{are_ascii};
 
 use crate::items::write_head;
 use crate::terms::write_term;
@@ -62,101 +63,152 @@ fn write_rule(alloc: Global, text: &mut Text, lines: &Lines, line: &Line) -> Res
         ≡ text.old ++ printed_rule (rule_of (trees lines.now.nodes) line.now)) }
 {
     match line {
-        Line::Assume(t) => {
-            text.signs("assume ")?;
-            Ok(write_place(alloc, text, lines, *t)?)
-        }
-        Line::Weaken(t, i) => {
-            text.signs("weaken ")?;
-            write_place(alloc, text, lines, *t)?;
-            Ok(write_number(text, *i)?)
-        }
-        Line::Refl(t) => {
-            text.signs("refl ")?;
-            Ok(write_place(alloc, text, lines, *t)?)
-        }
-        Line::Sym(i) => {
-            text.signs("sym")?;
-            Ok(write_number(text, *i)?)
-        }
-        Line::Trans(i, j) => {
-            text.signs("trans")?;
-            write_number(text, *i)?;
-            Ok(write_number(text, *j)?)
-        }
-        Line::Cong(i, j) => {
-            text.signs("cong")?;
-            write_number(text, *i)?;
-            Ok(write_number(text, *j)?)
-        }
-        Line::Abs(x, ty, i) => {
-            text.signs("abs ")?;
-            write_typed(alloc, text, x, ty)?;
-            Ok(write_number(text, *i)?)
-        }
-        Line::Beta(t) => {
-            text.signs("beta ")?;
-            Ok(write_place(alloc, text, lines, *t)?)
-        }
-        Line::Eta(t) => {
-            text.signs("eta ")?;
-            Ok(write_place(alloc, text, lines, *t)?)
-        }
-        Line::Eqmp(i, j) => {
-            text.signs("eqmp")?;
-            write_number(text, *i)?;
-            Ok(write_number(text, *j)?)
-        }
-        Line::ImpI(t, i) => {
-            text.signs("impI ")?;
-            write_place(alloc, text, lines, *t)?;
-            Ok(write_number(text, *i)?)
-        }
-        Line::Mp(i, j) => {
-            text.signs("mp")?;
-            write_number(text, *i)?;
-            Ok(write_number(text, *j)?)
-        }
-        Line::AllI(x, ty, i) => {
-            text.signs("allI ")?;
-            write_typed(alloc, text, x, ty)?;
-            Ok(write_number(text, *i)?)
-        }
-        Line::AllE(t, i) => {
-            text.signs("allE ")?;
-            write_place(alloc, text, lines, *t)?;
-            Ok(write_number(text, *i)?)
-        }
-        Line::Iff(i, j) => {
-            text.signs("iff")?;
-            write_number(text, *i)?;
-            Ok(write_number(text, *j)?)
-        }
-        Line::Inst(x, ty, t, i) => {
-            text.signs("inst ")?;
-            write_typed(alloc, text, x, ty)?;
-            text.signs(" ")?;
-            write_place(alloc, text, lines, *t)?;
-            Ok(write_number(text, *i)?)
-        }
-        Line::Tinst(a, ty, i) => {
-            text.signs("tinst '")?;
-            write_typed(alloc, text, a, ty)?;
-            Ok(write_number(text, *i)?)
-        }
-        Line::Select(t) => {
-            text.signs("select ")?;
-            Ok(write_place(alloc, text, lines, *t)?)
-        }
-        Line::Ccontr(t) => {
-            text.signs("ccontr ")?;
-            Ok(write_place(alloc, text, lines, *t)?)
-        }
-        Line::Thm(label) => {
-            text.signs("thm ")?;
-            Ok(text.name(label)?)
-        }
+        Line::Assume(t) => write_term_rule(alloc, text, lines, "assume", *t),
+        Line::Weaken(t, i) => write_term_and_number(alloc, text, lines, "weaken", *t, *i),
+        Line::Refl(t) => write_term_rule(alloc, text, lines, "refl", *t),
+        Line::Sym(i) => write_number_rule(text, "sym", *i),
+        Line::Trans(i, j) => write_numbers(text, "trans", *i, *j),
+        Line::Cong(i, j) => write_numbers(text, "cong", *i, *j),
+        Line::Abs(x, ty, i) => write_closing(alloc, text, "abs", x, ty, *i),
+        Line::Beta(t) => write_term_rule(alloc, text, lines, "beta", *t),
+        Line::Eta(t) => write_term_rule(alloc, text, lines, "eta", *t),
+        Line::Eqmp(i, j) => write_numbers(text, "eqmp", *i, *j),
+        Line::ImpI(t, i) => write_term_and_number(alloc, text, lines, "impI", *t, *i),
+        Line::Mp(i, j) => write_numbers(text, "mp", *i, *j),
+        Line::AllI(x, ty, i) => write_closing(alloc, text, "allI", x, ty, *i),
+        Line::AllE(t, i) => write_term_and_number(alloc, text, lines, "allE", *t, *i),
+        Line::Iff(i, j) => write_numbers(text, "iff", *i, *j),
+        Line::Inst(x, ty, t, i) => write_instance(alloc, text, lines, x, ty, *t, *i),
+        Line::Tinst(a, ty, i) => write_type_instance(alloc, text, a, ty, *i),
+        Line::Select(t) => write_term_rule(alloc, text, lines, "select", *t),
+        Line::Ccontr(t) => write_term_rule(alloc, text, lines, "ccontr", *t),
+        Line::Thm(label) => write_citation(text, label),
     }
+}
+
+/// Adds a rule that takes a term.
+fn write_term_rule(
+    alloc: Global,
+    text: &mut Text,
+    lines: &Lines,
+    word: &str,
+    t: usize,
+) -> Result<(), Memory>
+    requires word { are_ascii word.now ≡ true }
+    requires within { t < length lines.now.nodes }
+    ensures { OnOk result (text.new ≡ text.old ++ (word.now ++ (codes " "
+        ++ printed_term [] (get_or (trees lines.now.nodes) t (bound_name []))))) }
+{
+    text.signs(word)?;
+    text.signs(" ")?;
+    Ok(write_place(alloc, text, lines, t)?)
+}
+
+/// Adds a rule that takes a term and a line.
+fn write_term_and_number(
+    alloc: Global,
+    text: &mut Text,
+    lines: &Lines,
+    word: &str,
+    t: usize,
+    i: usize,
+) -> Result<(), Memory>
+    requires word { are_ascii word.now ≡ true }
+    requires within { t < length lines.now.nodes }
+    ensures { OnOk result (text.new ≡ text.old ++ (word.now ++ (codes " "
+        ++ (printed_term [] (get_or (trees lines.now.nodes) t (bound_name []))
+        ++ (codes " " ++ decimal i))))) }
+{
+    text.signs(word)?;
+    text.signs(" ")?;
+    write_place(alloc, text, lines, t)?;
+    Ok(write_number(text, i)?)
+}
+
+/// Adds a rule that takes a line.
+fn write_number_rule(text: &mut Text, word: &str, i: usize) -> Result<(), Memory>
+    requires { are_ascii word.now ≡ true }
+    ensures { OnOk result (text.new ≡ text.old ++ (word.now ++ (codes " " ++ decimal i))) }
+{
+    text.signs(word)?;
+    Ok(write_number(text, i)?)
+}
+
+/// Adds a rule that takes two lines.
+fn write_numbers(text: &mut Text, word: &str, i: usize, j: usize) -> Result<(), Memory>
+    requires { are_ascii word.now ≡ true }
+    ensures { OnOk result (text.new
+        ≡ text.old ++ (word.now ++ (codes " " ++ (decimal i ++ (codes " " ++ decimal j))))) }
+{
+    text.signs(word)?;
+    write_number(text, i)?;
+    Ok(write_number(text, j)?)
+}
+
+/// Adds a rule that closes a line over a variable.
+fn write_closing(
+    alloc: Global,
+    text: &mut Text,
+    word: &str,
+    name: &Name,
+    ty: &Ty,
+    i: usize,
+) -> Result<(), Memory>
+    requires { are_ascii word.now ≡ true }
+    ensures { OnOk result (text.new ≡ text.old ++ (word.now ++ (codes " " ++ (name.now
+        ++ (codes " " ++ (printed_type ty.now ++ (codes " " ++ decimal i))))))) }
+{
+    text.signs(word)?;
+    text.signs(" ")?;
+    write_typed(alloc, text, name, ty)?;
+    Ok(write_number(text, i)?)
+}
+
+/// Adds the rule that puts a type for a type variable.
+fn write_type_instance(
+    alloc: Global,
+    text: &mut Text,
+    name: &Name,
+    ty: &Ty,
+    i: usize,
+) -> Result<(), Memory>
+    ensures { OnOk result (text.new ≡ text.old ++ (codes "tinst '" ++ (name.now
+        ++ (codes " " ++ (printed_type ty.now ++ (codes " " ++ decimal i)))))) }
+{
+    text.signs("tinst '")?;
+    write_typed(alloc, text, name, ty)?;
+    Ok(write_number(text, i)?)
+}
+
+/// Adds the rule that puts a term for a variable.
+fn write_instance(
+    alloc: Global,
+    text: &mut Text,
+    lines: &Lines,
+    name: &Name,
+    ty: &Ty,
+    t: usize,
+    i: usize,
+) -> Result<(), Memory>
+    requires { t < length lines.now.nodes }
+    ensures { OnOk result (text.new ≡ text.old ++ (codes "inst " ++ (name.now
+        ++ (codes " " ++ (printed_type ty.now ++ (codes " "
+        ++ (printed_term [] (get_or (trees lines.now.nodes) t (bound_name []))
+        ++ (codes " " ++ decimal i)))))))) }
+{
+    text.signs("inst ")?;
+    write_typed(alloc, text, name, ty)?;
+    text.signs(" ")?;
+    write_place(alloc, text, lines, t)?;
+    Ok(write_number(text, i)?)
+}
+
+/// Adds the rule that cites a statement.
+fn write_citation(text: &mut Text, label: &Name) -> Result<(), Memory>
+    ensures { OnOk result (text.new ≡ text.old ++ (codes "thm " ++ label.now)) }
+{
+    text.signs("thm ")?;
+    Ok(text.name(label)?)
 }
 
 /// Adds the term at a place of the lines' nodes.
