@@ -7,8 +7,8 @@ use Rattle.lt_definitions.specs.Theory.{is_applied}
 use Rattle.lt_definitions.specs.Alpha.{is_alpha}
 use Rattle.lt_terms.specs.declared.term.TermNode.{TermNode}
 use Rattle.lt_terms.specs.declared.term.TermNode.TheVariants.{Free, Bound, Const, App, Lam}
-use Rattle.lt_terms.specs.Layout.{under, term_size, term_nodes, forest, grow}
-use Rattle.lt_terms.proofs.LayoutLemmas.{length-term_nodes, forest-whole}
+use Rattle.lt_terms.specs.Layout.{under, term_size, term_nodes}
+use Rattle.lt_terms.proofs.LayoutLemmas.{length-term_nodes}
 use Rattle.lt_conditions.specs.Applied.{function_of, IsFrontPlace}
 
 -- the node behind all others
@@ -50,7 +50,7 @@ no-front (application g b) k n h e d =
 pub record IsFront (t : TermTree) (nodes : List TermNode) (place : ℕ) : Type 0 where
   pub function : TermTree
   pub is : function_of t ≡ Some function
-  pub made : forest [] (take (place + 1) nodes) ≡ function ∷ []
+  pub nodes_are : take (place + 1) nodes ≡ term_nodes 0 function
   pub within : place + 1 ≤ length nodes
 
 pub front : (t : TermTree) (nodes : List TermNode) (place : ℕ) → nodes ≡ term_nodes 0 t → IsFrontPlace t place → IsFront t nodes place
@@ -64,7 +64,7 @@ front (application g b) nodes place e h =
     record {
       function = g;
       is = refl;
-      made = ap (forest []) ((λ i. take (count i) (e i)) ∙ take-append_seam (term_nodes 0 g) rest) ∙ forest-whole 0 g;
+      nodes_are = (λ i. take (count i) (e i)) ∙ take-append_seam (term_nodes 0 g) rest;
       within = let size : length nodes ≡ length (term_nodes 0 g) + length rest = ap length e ∙ length-append (term_nodes 0 g) rest in omega (arith, count, size);
     }
 

@@ -4,3 +4,4 @@ pub mod Refusals
 pub mod TypedefTests
 pub mod NameSets
 pub mod Fronts
+pub mod LabelNames

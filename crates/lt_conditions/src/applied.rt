@@ -34,8 +34,8 @@ fn term_to(alloc: Global, t: &Term, place: usize) -> Result<Term, Memory>
 {
     let nodes = t.nodes();
     let mut builder = TermBuilder::new(alloc);
-    for at in 0..place + 1 {
-        builder = builder.node(alloc, nodes[at].copy(alloc)?)?;
+    for node in &nodes[..place + 1] {
+        builder = builder.node(alloc, node.copy(alloc)?)?;
     }
     Ok(builder.finish())
 }

@@ -1,10 +1,10 @@
 //! The statements that definitions and typedefs add, as terms.
-ghost use Rattle.std.specs.Prelude.{◌≡◌, ◌≤◌, [], ◌∷◌, ◌++◌, map, length, true, IfOk};
+ghost use Rattle.std.specs.Prelude.{◌≡◌, [], ◌∷◌, length, true, IfOk};
 ghost use Rattle.std.specs.Str.{chars};
 ghost use Rattle.lt_definitions.specs.Characters.{is_name};
 ghost use Rattle.lt_definitions.specs.Types.{fun, type_variable, row};
 ghost use Rattle.lt_definitions.specs.Terms.{bound_name, constant, application};
-ghost use Rattle.lt_conditions.specs.Building.{equated_bound, closed_up};
+ghost use Rattle.lt_conditions.specs.Building.{closed_up};
 ghost use Rattle.lt_definitions.specs.Items.{declared, definition_statement, new_type, rep_statement, rep_inverse_statement, abs_inverse_statement};
 
 use crate::variables::own_variables;
@@ -79,7 +79,12 @@ pub fn rep_inverse_statement(
     let builder = at_type(alloc, builder, "eq", new)?;
     let builder = declared(alloc, builder, abs, &abs_type)?;
     let builder = declared(alloc, builder, rep, &rep_type)?;
-    let builder = equate_bound(alloc, builder, "a")?;
+    let builder = bound(alloc, builder, "a")?;
+    let builder = builder.app(alloc)?;
+    let builder = builder.app(alloc)?;
+    let builder = builder.app(alloc)?;
+    let builder = bound(alloc, builder, "a")?;
+    let builder = builder.app(alloc)?;
     close(alloc, builder, "a", new)
 }
 
@@ -106,23 +111,14 @@ pub fn abs_inverse_statement(
     let builder = at_type(alloc, builder, "eq", raw)?;
     let builder = declared(alloc, builder, rep, &rep_type)?;
     let builder = declared(alloc, builder, abs, &abs_type)?;
-    let builder = equate_bound(alloc, builder, "r")?;
+    let builder = bound(alloc, builder, "r")?;
+    let builder = builder.app(alloc)?;
+    let builder = builder.app(alloc)?;
+    let builder = builder.app(alloc)?;
+    let builder = bound(alloc, builder, "r")?;
+    let builder = builder.app(alloc)?;
     let builder = builder.app(alloc)?;
     close(alloc, builder, "r", raw)
-}
-
-/// From `=`, `f` and `g`: `f (g x) = x`, where `x` is the bound name.
-fn equate_bound(alloc: Global, builder: TermBuilder, name: &str) -> Result<TermBuilder, Memory>
-    requires word { is_name (chars name.now) ≡ true }
-    requires room { 3 ≤ length builder }
-    ensures { IfOk result (λ b. b ≡ equated_bound (chars name.now) builder) }
-{
-    let builder = bound(alloc, builder, name)?;
-    let builder = builder.app(alloc)?;
-    let builder = builder.app(alloc)?;
-    let builder = builder.app(alloc)?;
-    let builder = bound(alloc, builder, name)?;
-    Ok(builder.app(alloc)?)
 }
 
 /// From `all` and a body: the body for all values of its bound name.

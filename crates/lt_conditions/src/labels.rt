@@ -41,7 +41,7 @@ fn with_ending(alloc: Global, name: &Name, ending: &str) -> Result<Name, Memory>
     requires { list_all is_xid_continue (chars ending.now) ≡ true }
     ensures { IfOk result (λ l. l ≡ name.now ++ chars ending.now) }
 {
-    let mut text = String::from_str(alloc, name.text())?;
-    text.push_str(ending)?;
-    Ok(Name::word(alloc, text.as_str())?)
+    let mut label = String::from_str(alloc, name.text())?;
+    label.push_str(ending)?;
+    Ok(Name::word(alloc, label.as_str())?)
 }

@@ -1,5 +1,5 @@
 //! Each text has one walk; that of `check` accepts exactly the valid plain theories.
-ghost use Rattle.std.specs.Prelude.{◌≡◌, ◌×◌, ◌⊎◌, ◌↔◌, ◌≤◌, List, ℕ, length};
+ghost use Rattle.std.specs.Prelude.{◌≡◌, ◌↔◌, ◌≤◌, List, ℕ, length};
 ghost use Rattle.lt_definitions.specs.Items.{Item};
 ghost use Rattle.lt_definitions.specs.Theory.{Refusal, IsPlainTheory};
 ghost use Rattle.lt_texts.specs.Forms.{HasPlainItems};
