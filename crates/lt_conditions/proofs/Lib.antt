@@ -5,3 +5,4 @@ pub mod TypedefTests
 pub mod NameSets
 pub mod Fronts
 pub mod LabelNames
+pub mod Closing

@@ -34,7 +34,9 @@ fn term_to(alloc: Global, t: &Term, place: usize) -> Result<Term, Memory>
 {
     let nodes = t.nodes();
     let mut builder = TermBuilder::new(alloc);
-    for node in &nodes[..place + 1] {
+    let count = place + 1;
+    let front = &nodes[..count];
+    for node in front {
         builder = builder.node(alloc, node.copy(alloc)?)?;
     }
     Ok(builder.finish())

@@ -127,10 +127,11 @@ fn close(alloc: Global, builder: TermBuilder, name: &str, ty: &Ty) -> Result<Ter
     requires two { length builder ≡ 2 }
     ensures { IfOk result (λ t. closed_up (chars name.now) ty.now builder ≡ t ∷ []) }
 {
-    let name = Name::word(alloc, name)?;
-    let builder = builder.lam(alloc, name, ty.copy(alloc)?)?;
-    let builder = builder.app(alloc)?;
-    Ok(builder.finish())
+    let word = Name::word(alloc, name)?;
+    let copied = ty.copy(alloc)?;
+    let lambda = builder.lam(alloc, word, copied)?;
+    let closed = lambda.app(alloc)?;
+    Ok(closed.finish())
 }
 
 /// One more term, a constant at one type.

@@ -10,7 +10,7 @@ use Rattle.lt_hol.specs.Faults.{with_type, with_const}
 use Rattle.lt_store.specs.Trees.{tree_at}
 use Rattle.lt_kernel.specs.State.{State, statements, Keeps}
 use Rattle.lt_extend.specs.Standing.{StandsFor, StandsAs, GoesOn, IsBehind}
-use Rattle.lt_extend.specs.Entering.{with_rep, with_new_type, IsNewType}
+use Rattle.lt_extend.specs.Entering.{with_rep, with_new_type, IsNewType, IsNewStatement}
 use Rattle.lt_extend.proofs.Accepted.{found-more, typedef-adds}
 use Rattle.lt_extend.proofs.Behind.{behind-same, behind-on, behind-named, behind-type, behind-const, goes-on}
 use Rattle.lt_extend.proofs.Stands.{stands-still, stands-more, stands-const, statements-on}
@@ -112,6 +112,17 @@ typed-behind s0 s1 s2 s3 n a b k reps abss (Err x) e1 e2 e3 f =
 pub new-behind : {A : Type 0} (ps qs : List (Chars × A)) (x y : Chars) (v : A) → qs ≡ ps ++ (y, v) ∷ [] → found x ps ≡ None → same_name x y ≡ false → found x qs ≡ None
 new-behind ps qs x y v e h d = ap (found x) e ∙ found-more x y v ps h d
 
+pub stated-as : (named : List (Chars × ℕ)) (kept : List (Chars × TermTree)) (l m : Chars) (t u : TermTree) → l ≡ m → t ≡ u → IsNewStatement named kept m u → IsNewStatement named kept l t
+stated-as named kept l m t u e f h = subst (λ (q : Chars × TermTree). IsNewStatement named kept q.0 q.1) (λ i. (sym e i, sym f i)) h
+
+pub stated-later : (named more : List (Chars × ℕ)) (kept kept1 : List (Chars × TermTree)) (l m : Chars) (t u : TermTree) → IsNewStatement named kept l t
+    → ((id : ℕ) × (more ≡ named ++ (m, id) ∷ [])) → kept1 ≡ kept ++ (m, u) ∷ [] → same_name l m ≡ false → IsNewStatement more kept1 l t
+stated-later named more kept kept1 l m t u h e f d = record {
+  whole = h.whole;
+  new = new-behind named more l m e.0 e.1 h.new d;
+  fresh = new-behind kept kept1 l m u f h.fresh d;
+}
+
 pub stated-all : (s0 s1 s2 s3 : State) (k0 k1 k2 k3 : List (Chars × TermTree)) (l1 l2 l3 : Chars) (t1 t2 t3 : TermTree) (p1 p2 p3 : Chars × TermTree) (r : Result (Unit {0}) Memory)
     → (l1, t1) ≡ p1 → (l2, t2) ≡ p2 → (l3, t3) ≡ p3
     → ((ctx : Context) → StandsAs ctx s0 k0 → StandsAs (with_statements ((l1, t1) ∷ []) ctx) s1 k1)
@@ -133,12 +144,12 @@ pub behind-three : (s0 s1 s2 s3 : State) → IsBehind s0 s1 → IsBehind s1 s2 �
 behind-three s0 s1 s2 s3 a b c = behind-on s0 s2 s3 (behind-on s0 s1 s2 a b) c
 
 -- what a typedef adds, in one
-pub typedef-stands : (s0 s1 s2 : State) (k0 k2 : List (Chars × TermTree)) (n l a b : Chars) (params : List Chars) (p : TermTree) (raw : TypeTree) (r : Result (Unit {0}) Memory)
+pub typedef-stands : (s0 s1 s2 : State) (k0 k2 : List (Chars × TermTree)) (n a b : Chars) (params : List Chars) (p : TermTree) (raw : TypeTree) (r : Result (Unit {0}) Memory)
     → typed s0.signature [] p ≡ Ok (fun raw bool) → s1 ≡ record s0 { signature = with_new_type n params raw a b s0.signature }
     → OnOk r ((ctx : Context) → StandsAs ctx s1 k0 → StandsAs (with_statements (typedef_statements n (new_type n params) raw p a b) ctx) s2 k2)
-    → OnOk r ((ctx : Context) → StandsAs ctx s0 k0 → StandsAs (with_item ctx (typedef_item n params p l a b)) s2 k2)
-typedef-stands s0 s1 s2 k0 k2 n l a b params p raw (Err x) t e f = tt
-typedef-stands s0 s1 s2 k0 k2 n l a b params p raw (Ok _) t e f = λ ctx h.
+    → OnOk r ((l : Chars) (ctx : Context) → StandsAs ctx s0 k0 → StandsAs (with_item ctx (typedef_item n params p l a b)) s2 k2)
+typedef-stands s0 s1 s2 k0 k2 n a b params p raw (Err x) t e f = tt
+typedef-stands s0 s1 s2 k0 k2 n a b params p raw (Ok _) t e f = λ l ctx h.
     let cs : List (Chars × TypeTree) = (b, fun (new_type n params) raw) ∷ (a, fun raw (new_type n params)) ∷ [] in
     let mid : Context = with_consts cs (with_types ((n, length params) ∷ []) ctx) in
     let sig : s1.signature ≡ mid.signature = ap (λ (s : State). s.signature) e ∙ ap (with_new_type n params raw a b) h.stands.signature
@@ -152,3 +163,10 @@ typedef-stands s0 s1 s2 k0 k2 n l a b params p raw (Ok _) t e f = λ ctx h.
     } in
     let is : typed ctx.signature [] p ≡ Ok (fun raw bool) = ap (λ (g : Signature). typed g [] p) (sym h.stands.signature) ∙ t in
     subst (λ (c : Context). StandsAs c s2 k2) (sym (typedef-adds ctx n params p l a b raw is)) (f mid here)
+
+-- and for one label
+pub typedef-labelled : (s0 s2 : State) (k0 k2 : List (Chars × TermTree)) (n l a b : Chars) (params : List Chars) (p : TermTree) (r : Result (Unit {0}) Memory)
+    → OnOk r ((by : Chars) (ctx : Context) → StandsAs ctx s0 k0 → StandsAs (with_item ctx (typedef_item n params p by a b)) s2 k2)
+    → OnOk r ((ctx : Context) → StandsAs ctx s0 k0 → StandsAs (with_item ctx (typedef_item n params p l a b)) s2 k2)
+typedef-labelled s0 s2 k0 k2 n l a b params p (Err x) f = tt
+typedef-labelled s0 s2 k0 k2 n l a b params p (Ok _) f = f l

@@ -9,3 +9,5 @@ pub mod StoredLines
 pub mod Tested
 pub mod Unreached
 pub mod WholeLines
+pub mod Backward
+pub mod ProvedLemmas

@@ -1,6 +1,6 @@
 //! Adds what an item declares and states, where the item was found valid.
 ghost use Rattle.std.specs.Prelude.{◌≡◌, ◌<◌, ◌++◌, ◌∷◌, [], List, ℕ, None as Nothing, Ok as Fine, length, OnOk, OnErr};
-ghost use Rattle.lt_definitions.specs.Types.{found, fun, bool};
+ghost use Rattle.lt_definitions.specs.Types.{Chars, found, fun, bool};
 ghost use Rattle.lt_definitions.specs.Typing.{type_fault, typed};
 ghost use Rattle.lt_definitions.specs.Items.{Item, Context, with_statements, with_item, new_type, typedef_statements, def_item, typedef_item};
 ghost use Rattle.lt_nameless.specs.Nameless.{nameless, IsWhole};
@@ -217,19 +217,19 @@ pub(crate) fn enter_typedef<S: TermStore>(
     params: &Names,
     predicate: &Term,
     raw: &Ty,
-    _by: &Name,
     abs: &Name,
     rep: &Name,
 ) -> Result<(), Memory>
     requires over { typed proof.old.signature [] predicate.now ≡ Fine (fun raw.now bool) }
-    requires ready { (items : List Item) × IsReady items proof.old statements.old.entries
-        (typedef_item name.now params.now predicate.now _by.now abs.now rep.now) }
+    requires ready { (items : List Item) × (by : Chars) × IsReady items proof.old
+        statements.old.entries
+        (typedef_item name.now params.now predicate.now by abs.now rep.now) }
     ensures behind { IsBehind proof.old proof.new }
     ensures front { GoesOn statements.old.entries statements.new.entries }
-    ensures stands { OnOk result ((ctx : Context)
+    ensures stands { OnOk result ((by : Chars) (ctx : Context)
         → StandsAs ctx proof.old statements.old.entries
         → StandsAs (with_item ctx
-        (typedef_item name.now params.now predicate.now _by.now abs.now rep.now)) proof.new
+        (typedef_item name.now params.now predicate.now by abs.now rep.now)) proof.new
         statements.new.entries) }
 {
     enter_typed(alloc, proof, name, params, raw, abs, rep)?;

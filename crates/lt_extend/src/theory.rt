@@ -229,7 +229,6 @@ impl<S: TermStore> Theory<S> {
             &params,
             &pred,
             &raw,
-            by,
             &abs,
             &rep,
         );

@@ -30,5 +30,5 @@ returns-clause-behind g c =
 pub returns-clause-stands : goal.returns-clause-stands
 returns-clause-stands g c =
     stored-stands c.args.proof.now c.add_term.new.self c.enter_stored.new.proof c.args.statements.now.entries c.enter_stored.new.statements.entries c.args.label.now c.args.t.now c.in_ok-id.id c.enter_stored.result
-    c.add_term.ensures.keeps c.in_ok-id.ensures.is
+    c.add_term.ensures.keeps c.in_ok-id.ensures.builds.is
     (record { ok = c.enter_stored.ensures.ok; kept = c.enter_stored.ensures.kept; err = c.enter_stored.ensures.err; front = c.enter_stored.ensures.front })
