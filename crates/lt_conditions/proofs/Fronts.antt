@@ -1,5 +1,5 @@
 -- The function of an application lies at the front of its nodes.
-use Rattle.std.proofs.Common.{◌≡◌, ℕ, zero, suc, ◌+◌, ◌≤◌, ◌<◌, List, [], ◌∷◌, ◌++◌, length, take, slice_get, Some, None, Option, refl, sym, ◌∙◌, ap, subst, arith, length-append, append_assoc}
+use Rattle.std.proofs.Common.{◌≡◌, ℕ, zero, suc, ◌+◌, ◌≤◌, ◌<◌, List, [], ◌∷◌, ◌++◌, length, take, slice_get, Some, None, Option, Result, Ok, Err, IfOk, refl, sym, ◌∙◌, ap, subst, arith, length-append, append_assoc}
 use Rattle.std.proofs.Math.Seq.{take-append_seam}
 use Rattle.lt_definitions.specs.Types.{Chars, TypeTree}
 use Rattle.lt_definitions.specs.Terms.{TermTree, free_variable, bound_name, constant, application, abstraction}
@@ -75,3 +75,9 @@ applied-to p (free_variable x ty) g e = absurd (cc e)
 applied-to p (bound_name x) g e = absurd (cc e)
 applied-to p (constant c ts) g e = absurd (cc e)
 applied-to p (abstraction x ty b) g e = absurd (cc e)
+
+-- what is made of the nodes up to there is the function
+pub made-front : {E : Type 0} (t : TermTree) (nodes : List TermNode) (place : ℕ) (r : Result TermTree E) → IsFront t nodes place → IfOk r (λ u. (f : TermTree) → take (place + 1) nodes ≡ term_nodes 0 f → u ≡ f)
+    → IfOk r (λ u. function_of t ≡ Some u)
+made-front t nodes place (Ok u) f h = f.is ∙ ap Some (sym (h f.function f.nodes_are))
+made-front t nodes place (Err e) f h = tt

@@ -1,5 +1,6 @@
 //! Statements that apply a predicate.
 ghost use Rattle.std.specs.Prelude.{◌≡◌, ◌<◌, Some as Just, IfOk, length};
+ghost use Rattle.lt_definitions.specs.Terms.{TermTree};
 ghost use Rattle.lt_definitions.specs.Theory.{is_applied};
 ghost use Rattle.lt_terms.specs.Layout.{term_nodes, term_size};
 ghost use Rattle.lt_conditions.specs.Applied.{function_of, IsFrontPlace};
@@ -33,10 +34,17 @@ fn term_to(alloc: Global, t: &Term, place: usize) -> Result<Term, Memory>
     ensures { IfOk result (λ f. function_of t.now ≡ Just f) }
 {
     let nodes = t.nodes();
-    let mut builder = TermBuilder::new(alloc);
     let count = place + 1;
-    let front = &nodes[..count];
-    for node in front {
+    term_of(alloc, &nodes[..count])
+}
+
+/// The term that nodes make.
+fn term_of(alloc: Global, nodes: &[TermNode]) -> Result<Term, Memory>
+    requires { (f : TermTree) × (nodes.now ≡ term_nodes 0 f) }
+    ensures { IfOk result (λ t. (f : TermTree) → nodes.now ≡ term_nodes 0 f → t ≡ f) }
+{
+    let mut builder = TermBuilder::new(alloc);
+    for node in nodes {
         builder = builder.node(alloc, node.copy(alloc)?)?;
     }
     Ok(builder.finish())

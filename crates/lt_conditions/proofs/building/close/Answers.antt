@@ -7,8 +7,8 @@ use Rattle.lt_conditions.proofs.building.close.Goals as goal
 
 pub finish-requires : goal.finish-requires
 finish-requires c =
-    ap length (closed-steps (chars c.args.name.now) _ c.args.ty.now _ c.args.builder _ _ c.args.two c.in_ok-word.ensures c.in_ok-copied.ensures c.in_ok-lambda.ensures c.in_ok-closed.ensures) ∙ closed-one (chars c.args.name.now) c.args.ty.now c.args.builder c.args.two
+    ap length (closed-steps (chars c.args.name.now) _ c.args.ty.now _ c.args.builder _ _ c.requires.two c.in_ok-word.ensures c.in_ok-copied.ensures c.in_ok-lambda.ensures c.in_ok-closed.ensures) ∙ closed-one (chars c.args.name.now) c.args.ty.now c.args.builder c.requires.two
 
 pub returns : goal.returns
 returns c =
-    sym (closed-steps (chars c.args.name.now) _ c.args.ty.now _ c.args.builder _ _ c.args.two c.in_ok-word.ensures c.in_ok-copied.ensures c.in_ok-lambda.ensures c.in_ok-closed.ensures) ∙ c.finish.ensures
+    sym (closed-steps (chars c.args.name.now) _ c.args.ty.now _ c.args.builder _ _ c.requires.two c.in_ok-word.ensures c.in_ok-copied.ensures c.in_ok-lambda.ensures c.in_ok-closed.ensures) ∙ c.finish.ensures

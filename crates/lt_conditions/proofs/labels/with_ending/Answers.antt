@@ -8,10 +8,10 @@ pub word-requires : goal.word-requires
 word-requires c =
     let is : chars c.as_str.result.now ≡ c.args.name.now ++ chars c.args.ending.now =
     ap chars (c.as_str.ensures.value ∙ c.in_ok-push_str.ensures.bytes) ∙ chars-append _ c.args.ending.now (IsUtf8-string_bytes c.in_ok-label.label)
-    ∙ (λ i. (ap chars c.in_ok-label.ensures ∙ c.text.ensures.same) i ++ chars c.args.ending.now) in
+    ∙ (λ i. (ap chars c.in_ok-label.ensures.ok ∙ c.text.ensures.same) i ++ chars c.args.ending.now) in
     ap is_name is ∙ name-ending c.args.name.now (chars c.args.ending.now) c.text.ensures.name c.requires
 
 pub returns : goal.returns
 returns c =
     c.in_ok-word.ensures ∙ ap chars (c.as_str.ensures.value ∙ c.in_ok-push_str.ensures.bytes) ∙ chars-append _ c.args.ending.now (IsUtf8-string_bytes c.in_ok-label.label)
-    ∙ (λ i. (ap chars c.in_ok-label.ensures ∙ c.text.ensures.same) i ++ chars c.args.ending.now)
+    ∙ (λ i. (ap chars c.in_ok-label.ensures.ok ∙ c.text.ensures.same) i ++ chars c.args.ending.now)
