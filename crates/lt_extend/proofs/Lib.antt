@@ -11,3 +11,4 @@ pub mod Unreached
 pub mod WholeLines
 pub mod Backward
 pub mod ProvedLemmas
+pub mod ToldSequents
