@@ -5,9 +5,11 @@ use Rattle.std.proofs.lemmas.List.{map-append, take_more, take_all}
 use Rattle.std.proofs.lemmas.List.Elements.{All-get_or}
 use Rattle.std.proofs.lemmas.Option.{slice_get-map}
 use Rattle.lt_definitions.specs.Terms.{TermTree}
-use Rattle.lt_nameless.specs.Nameless.{Nameless, nameless, IsWhole}
+use Rattle.lt_definitions.specs.Rules.{line_at}
+use Rattle.lt_nameless.specs.Nameless.{Nameless, NamelessSequent, nameless, IsWhole}
 use Rattle.lt_store.specs.declared.node.Node.{Node}
 use Rattle.lt_store.specs.Trees.{tree_at, trees}
+use Rattle.lt_extend.specs.Proving.{AreWhole, IsWholeSequent}
 
 within-at : {A : Type 0} (xs : List A) (i : ℕ) (x : A) → slice_get xs i ≡ Some x → i < length xs
 within-at [] i x e = absurd (cc e)
@@ -36,3 +38,8 @@ told-next nodes ids i id terms more t h e is m =
 -- behind the last term
 pub told-all : (nodes : List Node) (ids : List ℕ) (i : ℕ) (terms : List TermTree) → map (nameless []) terms ≡ trees nodes (take i ids) → length ids ≤ i → map (nameless []) terms ≡ trees nodes ids
 told-all nodes ids i terms h down = h ∙ ap (trees nodes) (take_all i ids down)
+
+-- a line's sequent is whole, where all are
+pub whole-line : (ss : List NamelessSequent) (n : ℕ) (s : NamelessSequent) → AreWhole ss → line_at ss n ≡ Some s → IsWholeSequent s
+whole-line ss zero s h e = absurd (cc e)
+whole-line ss (suc n) s h e = all-at IsWholeSequent ss n s h e
