@@ -4,4 +4,4 @@ use Rattle.lt_conditions.specs.LooseNames.{first_loose}
 use Rattle.lt_conditions.proofs.loose.loose_in_types.Given as goal
 
 abbrev pub invariant-loop-ty : goal.invariant-loop-ty
-invariant-loop-ty l = first_loose l.allowed.keys (types_names (row l.types)) ≡ first_loose l.allowed.keys (types_names (row (drop l.ty-index l.ty-items)))
+invariant-loop-ty l = first_loose l.allowed.keys (types_names (row l.types)) ≡ first_loose l.allowed.keys (types_names (row (drop l.ty-index l.types)))
