@@ -1,5 +1,5 @@
 -- Equations on the way to a normal form.
-use Rattle.std.proofs.Common.{◌≡◌, ℕ, [], is_some, true, Some, None, Ok, false, ◌∷◌, sym, ◌∙◌, ap, subst}
+use Rattle.std.proofs.Common.{◌≡◌, ℕ, ◌<◌, [], length, is_some, true, Some, None, Ok, false, ◌∷◌, sym, ◌∙◌, ap, subst}
 use Rattle.lt_definitions.specs.Types.{Chars, TypeTree, fun}
 use Rattle.lt_definitions.specs.Typing.{type_fault, unless}
 use Rattle.lt_nameless.specs.Nameless.{Nameless, nameless_free, nameless_application, nameless_abstraction}
@@ -132,10 +132,11 @@ module _ (s0 s1 : State) (i t r : ℕ) (x : Chars) (ty : TypeTree) (q : IsUnder 
       pub place-sound : IsTyped s2.signature s2.nodes p
       place-sound = stands-sound s2 n p place-equation.from variable_body place-equation.holds place-stands
 
-      pub body-opened : (s3 : State) (m body : ℕ) → Equates s3 m (tree_at s2.nodes p) (tree_at s2.nodes p) → Stands s0 body q.b → ((u : TypeTree) → nameless_has_free x u (tree_at s0.nodes body) ≡ false)
-          → IsOpened s3 q.ty q.b m x ty
-      body-opened s3 m body k b fresh = record {
+      pub body-opened : (s3 : State) (m body floor : ℕ) → floor < length x → Equates s3 m (tree_at s2.nodes p) (tree_at s2.nodes p) → Stands s0 body q.b → ((u : TypeTree) → nameless_has_free x u (tree_at s0.nodes body) ≡ false)
+          → IsOpened s3 q.ty q.b m floor x ty
+      body-opened s3 m body floor long k b fresh = record {
         same = same;
         new = subst (λ (w : Nameless). nameless_has_free x q.ty w ≡ false) b.is (fresh q.ty);
+        long = long;
         line = self-equates s2 s3 p m variable_body place-stands k;
       }

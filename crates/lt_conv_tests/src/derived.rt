@@ -26,7 +26,10 @@ fn premises_are_detached(rt: HostRuntime) -> Result<(), Fail> {
     let none = chain(alloc, &mut proof, implied, &[])?;
     assert_eq!(rt; none, implied);
     let missing = chain(alloc, &mut proof, implied, &[assumed, 99]);
-    let refused = matches!(missing, Err(RuleFault::Bad(Reason::NotImplication)));
+    let refused = matches!(missing, Err(RuleFault::Bad(Reason::MissingLine)));
+    assert!(rt; refused);
+    let atomic = chain(alloc, &mut proof, implied, &[assumed, assumed]);
+    let refused = matches!(atomic, Err(RuleFault::Bad(Reason::NotImplication)));
     assert!(rt; refused);
     Ok(())
 }

@@ -1,5 +1,5 @@
 //! Normal forms, and the limits on the way.
-use crate::terms::{doubling, empty, implies, put, tower, towers, variable};
+use crate::terms::{doubling, empty, implies, put, tower, variable};
 use lt_conv::{ConvFault, normal_form};
 use lt_hol::Term;
 use lt_kernel::Proof;
@@ -65,25 +65,5 @@ fn a_step_under_a_binder_follows_those_outside(rt: HostRuntime) -> Result<(), Fa
     assert!(rt; is);
     let second = limit(alloc, &tower(alloc, 2)?)?;
     assert!(rt; second.is_none());
-    Ok(())
-}
-
-#[test]
-fn ten_thousand_steps_are_the_limit(rt: HostRuntime) -> Result<(), Fail> {
-    let alloc = rt.alloc();
-    let within = towers(alloc, 1, &[1, 2, 4, 8, 9, 10, 13])?;
-    let none = limit(alloc, &within)?;
-    assert!(rt; none.is_none());
-    let beyond = towers(alloc, 1, &[1, 2, 4, 8, 9, 10, 13, 1])?;
-    let last = limit(alloc, &beyond)?;
-    assert_eq!(rt; last, Some(10_000));
-    Ok(())
-}
-
-#[test]
-fn too_many_nodes_are_a_limit(rt: HostRuntime) -> Result<(), Fail> {
-    let alloc = rt.alloc();
-    let large = limit(alloc, &tower(alloc, 16)?)?;
-    assert!(rt; large.is_some());
     Ok(())
 }

@@ -56,13 +56,3 @@ pub fn tower(alloc: Global, height: usize) -> Result<Term, Fail> {
     }
     Ok(term)
 }
-
-/// Towers of these heights, each implying what follows.
-pub fn towers(alloc: Global, last: usize, heights: &[usize]) -> Result<Term, Fail> {
-    let mut term = tower(alloc, last)?;
-    for height in heights {
-        let front = tower(alloc, *height)?;
-        term = implies(alloc, front, term)?;
-    }
-    Ok(term)
-}

@@ -12,14 +12,14 @@ contract-requires g c = at-redex c.args.proof.now (spot c.args.machine.now) c.re
 pub returns-then-is_redex-clause-leads : goal.returns-then-is_redex-clause-leads
 returns-then-is_redex-clause-leads g c = λ q. c.contract.ensures.leads (at-redex c.args.proof.now (spot c.args.machine.now) q c.right-t.result (c.right-t.ensures (running-equation c.args.proof.now (spot c.args.machine.now) q)) c.requires.down (sym c.is_redex.ensures ∙ c.if-is_redex.true))
 
-pub is_app-requires : goal.is_app-requires
-is_app-requires g c = (c.right-t.ensures (running-equation c.args.proof.now (spot c.args.machine.now) c.requires.running)).within
+pub is_application-requires : goal.is_application-requires
+is_application-requires g c = (c.right-t.ensures (running-equation c.args.proof.now (spot c.args.machine.now) c.requires.running)).within
 
 pub enter_head-requires : goal.enter_head-requires
-enter_head-requires g c = at-application c.args.proof.now (spot c.args.machine.now) c.requires.running c.right-t.result (c.right-t.ensures (running-equation c.args.proof.now (spot c.args.machine.now) c.requires.running)) c.requires.down (sym c.is_redex.ensures ∙ c.if-is_redex.false) (sym c.is_app.ensures ∙ c.if-is_app.true)
+enter_head-requires g c = at-application c.args.proof.now (spot c.args.machine.now) c.requires.running c.right-t.result (c.right-t.ensures (running-equation c.args.proof.now (spot c.args.machine.now) c.requires.running)) c.requires.down (sym c.is_redex.ensures ∙ c.if-is_redex.false) (sym c.is_application.ensures ∙ c.if-is_application.true)
 
-pub returns-then-is_app-clause-leads : goal.returns-then-is_app-clause-leads
-returns-then-is_app-clause-leads g c = λ q. c.enter_head.ensures.leads (at-application c.args.proof.now (spot c.args.machine.now) q c.right-t.result (c.right-t.ensures (running-equation c.args.proof.now (spot c.args.machine.now) q)) c.requires.down (sym c.is_redex.ensures ∙ c.if-is_redex.false) (sym c.is_app.ensures ∙ c.if-is_app.true))
+pub returns-then-is_application-clause-leads : goal.returns-then-is_application-clause-leads
+returns-then-is_application-clause-leads g c = λ q. c.enter_head.ensures.leads (at-application c.args.proof.now (spot c.args.machine.now) q c.right-t.result (c.right-t.ensures (running-equation c.args.proof.now (spot c.args.machine.now) q)) c.requires.down (sym c.is_redex.ensures ∙ c.if-is_redex.false) (sym c.is_application.ensures ∙ c.if-is_application.true))
 
 pub is_lam-requires : goal.is_lam-requires
 is_lam-requires g c = (c.right-t.ensures (running-equation c.args.proof.now (spot c.args.machine.now) c.requires.running)).within
@@ -43,7 +43,7 @@ pub overflow_sub-machine : goal.overflow_sub-machine
 overflow_sub-machine g c = leaf-room c.args.proof.now (spot c.args.machine.now) c.requires.running c.requires.down
 
 pub returns-clause-leads : goal.returns-clause-leads
-returns-clause-leads g c = λ q. at-leaf c.args.proof.now (spot c.args.machine.now) q c.right-t.result (c.right-t.ensures (running-equation c.args.proof.now (spot c.args.machine.now) q)) c.requires.down (sym c.is_app.ensures ∙ c.if-is_app.false) (sym c.is_lam.ensures ∙ c.if-is_lam.false)
+returns-clause-leads g c = λ q. at-leaf c.args.proof.now (spot c.args.machine.now) q c.right-t.result (c.right-t.ensures (running-equation c.args.proof.now (spot c.args.machine.now) q)) c.requires.down (sym c.is_application.ensures ∙ c.if-is_application.false) (sym c.is_lam.ensures ∙ c.if-is_lam.false)
 
 pub returns-clause-less : goal.returns-clause-less
 returns-clause-less g c = let r = leaf-room c.args.proof.now (spot c.args.machine.now) c.requires.running c.requires.down in inr (record { steps = refl; room = omega (arith, r) })

@@ -1,4 +1,4 @@
-use Rattle.std.proofs.Common.{ap, reverse}
+use Rattle.std.proofs.Common.{ap, reverse, arith}
 use Rattle.lt_store.specs.Trees.{tree_at}
 use Rattle.lt_reductions.specs.Reducts.{nodes_over, normal_form_of}
 use Rattle.lt_conv.specs.Machines.{spot}

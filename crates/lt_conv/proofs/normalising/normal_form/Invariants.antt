@@ -1,7 +1,8 @@
 use Rattle.std.proofs.Common.{◌+◌, ◌-◌, ◌*◌}
 use Rattle.lt_store.specs.Trees.{tree_at}
 use Rattle.lt_kernel.specs.Growing.{Carries}
-use Rattle.lt_conv.specs.Machines.{spot, Runs, HasRoom, normal_form_of}
+use Rattle.lt_reductions.specs.Reducts.{normal_form_of}
+use Rattle.lt_conv.specs.Machines.{spot, Runs, HasRoom}
 use Rattle.lt_conv.proofs.normalising.normal_form.Given as goal
 
 abbrev pub invariant-loop-machine : goal.invariant-loop-machine
