@@ -6,3 +6,4 @@ pub mod Moving
 pub mod Upwards
 pub mod Downwards
 pub mod Running
+pub mod Unfolded

@@ -197,32 +197,32 @@ module _ (s : State) (m : Spot) (e : ℕ) (x : Chars) (ty : TypeTree) where
 -- ---- there is room for a move
 
 -- what is around a place that was left has a weight
-pub function-room : (s : State) (e : ℕ) (fs : List Frame) (around : List Around) (start t : Nameless) → Levels s (Function e ∷ fs) around start t → 0 < weight m.floor around
-function-room s e fs (at_function a ∷ ps) start t h = omega arith
-function-room s e fs [] start t h = absurd h
-function-room s e fs (at_argument f ∷ ps) start t h = absurd h
-function-room s e fs (at_body x ty ∷ ps) start t h = absurd h
+pub function-room : (floor : ℕ) (s : State) (e : ℕ) (fs : List Frame) (around : List Around) (start t : Nameless) → Levels s (Function e ∷ fs) around start t → 0 < weight floor around
+function-room floor s e fs (at_function a ∷ ps) start t h = omega arith
+function-room floor s e fs [] start t h = absurd h
+function-room floor s e fs (at_argument f ∷ ps) start t h = absurd h
+function-room floor s e fs (at_body x ty ∷ ps) start t h = absurd h
 
-pub argument-room : (s : State) (e k : ℕ) (fs : List Frame) (around : List Around) (start t : Nameless) → Levels s (Argument e k ∷ fs) around start t → 0 < weight m.floor around
-argument-room s e k fs (at_argument f ∷ ps) start t h = omega arith
-argument-room s e k fs [] start t h = absurd h
-argument-room s e k fs (at_function a ∷ ps) start t h = absurd h
-argument-room s e k fs (at_body x ty ∷ ps) start t h = absurd h
+pub argument-room : (floor : ℕ) (s : State) (e k : ℕ) (fs : List Frame) (around : List Around) (start t : Nameless) → Levels s (Argument e k ∷ fs) around start t → 0 < weight floor around
+argument-room floor s e k fs (at_argument f ∷ ps) start t h = omega arith
+argument-room floor s e k fs [] start t h = absurd h
+argument-room floor s e k fs (at_function a ∷ ps) start t h = absurd h
+argument-room floor s e k fs (at_body x ty ∷ ps) start t h = absurd h
 
-pub body-room : (s : State) (e : ℕ) (x : Chars) (ty : TypeTree) (fs : List Frame) (around : List Around) (start t : Nameless) → Levels s (Body e x ty ∷ fs) around start t → 0 < weight m.floor around
-body-room s e x ty fs (at_body y u ∷ ps) start t h = omega arith
-body-room s e x ty fs [] start t h = absurd h
-body-room s e x ty fs (at_function a ∷ ps) start t h = absurd h
-body-room s e x ty fs (at_argument f ∷ ps) start t h = absurd h
+pub body-room : (floor : ℕ) (s : State) (e : ℕ) (x : Chars) (ty : TypeTree) (fs : List Frame) (around : List Around) (start t : Nameless) → Levels s (Body e x ty ∷ fs) around start t → 0 < weight floor around
+body-room floor s e x ty fs (at_body y u ∷ ps) start t h = omega arith
+body-room floor s e x ty fs [] start t h = absurd h
+body-room floor s e x ty fs (at_function a ∷ ps) start t h = absurd h
+body-room floor s e x ty fs (at_argument f ∷ ps) start t h = absurd h
 
 pub head-room : (s : State) (m : Spot) (e : ℕ) → IsBehindHead s m e → 1 ≤ m.room
-head-room s m e q = let h = function-room s e m.frames q.runs.around q.runs.start q.t q.runs.levels in let r = q.room.0 in omega (arith, h, r)
+head-room s m e q = let h = function-room m.floor s e m.frames q.runs.around q.runs.start q.t q.runs.levels in let r = q.room.0 in omega (arith, h, r)
 
 pub argument-left-room : (s : State) (m : Spot) (e k : ℕ) → IsBehindArgument s m e k → 1 ≤ m.room
-argument-left-room s m e k q = let h = argument-room s e k m.frames q.runs.around q.runs.start q.t q.runs.levels in let r = q.room.0 in omega (arith, h, r)
+argument-left-room s m e k q = let h = argument-room m.floor s e k m.frames q.runs.around q.runs.start q.t q.runs.levels in let r = q.room.0 in omega (arith, h, r)
 
 pub body-left-room : (s : State) (m : Spot) (e : ℕ) (x : Chars) (ty : TypeTree) → IsBehindBody s m e x ty → 1 ≤ m.room
-body-left-room s m e x ty q = let h = body-room s e x ty m.frames q.runs.around q.runs.start q.t q.runs.levels in let r = q.room.0 in omega (arith, h, r)
+body-left-room s m e x ty q = let h = body-room m.floor s e x ty m.frames q.runs.around q.runs.start q.t q.runs.levels in let r = q.room.0 in omega (arith, h, r)
 
 -- ---- into the body
 

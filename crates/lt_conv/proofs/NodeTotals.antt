@@ -10,7 +10,10 @@ use Rattle.lt_store.specs.declared.node.Node.{Node}
 use Rattle.lt_store.specs.declared.node.Node.TheVariants as node
 use Rattle.lt_store.specs.Trees.{tree_at, node_tree, IsBelow}
 use Rattle.lt_reductions.specs.Reducts.{nodes_over, IsShort}
-use Rattle.lt_conv.specs.Conversions.{node_length, node_count}
+use Rattle.lt_types.specs.Layout.{type_size}
+use Rattle.lt_terms.proofs.NodeCounts.{size-nodes}
+use Rattle.lt_reductions.proofs.Putting.{less-not}
+use Rattle.lt_conv.specs.Conversions.{node_length, node_count, variable_count}
 use Rattle.lt_derived.specs.NodeTypes.{child_ids}
 
 -- how many nodes these terms have together
@@ -162,3 +165,12 @@ shorter n m (nameless_loose x) l h = tt
 shorter n m (nameless_constant c ts) l h = tt
 shorter n m (nameless_application f a) l h = (shorter n m f l h.0, shorter n m a l h.1)
 shorter n m (nameless_abstraction ty b) l h = shorter n m b l h
+
+-- a node and the nodes of its type, up to the bound
+pub one-type : (m k c whole : ℕ) (t : TypeTree) → whole ≡ 1 + type_nodes t → k ≡ type_size t → c ≡ min (k + 1) m → c ≡ min whole m
+one-type m k c whole t count size e =
+    let same : k + 1 ≡ whole = omega (arith, count, size, size-nodes t) in e ∙ ap (λ j. min j m) same
+
+-- a free variable of the whole term
+pub not-long : (floor : ℕ) (x : Chars) (t : TypeTree) → length x ≤ floor → variable_count floor x t ≡ 1 + type_nodes t
+not-long floor x t l = ap (λ b. if b then 1 else 1 + type_nodes t) (less-not floor (length x) l)

@@ -4,9 +4,10 @@ ghost use Rattle.lt_definitions.specs.Types.{Chars};
 ghost use Rattle.lt_nameless.specs.Nameless.{Nameless};
 ghost use Rattle.lt_nameless.specs.NamelessRules.{nameless_beta};
 ghost use Rattle.lt_store.specs.Trees.{tree_at};
+ghost use Rattle.lt_store.specs.Typed.{IsTyped};
 ghost use Rattle.lt_kernel.specs.State.{statements};
 ghost use Rattle.lt_reductions.specs.Reducts.{is_abstraction};
-ghost use Rattle.lt_kernel.specs.Growing.{Carries};
+ghost use Rattle.lt_kernel.specs.Growing.{Carries, IsSound};
 ghost use Rattle.lt_conv.specs.Conversions.{Converts, and_then, or_else};
 
 use lt_derived::equations::{beta, right, trans};

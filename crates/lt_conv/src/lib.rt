@@ -8,7 +8,9 @@ mod moves;
 mod normalising;
 mod opening;
 mod steps;
+mod unfolding;
 
 pub use conversion::{Beta, Conversion, OrElse, Then};
 pub use machine::ConvFault;
 pub use normalising::normal_form;
+pub use unfolding::Unfold;

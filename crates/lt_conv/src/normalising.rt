@@ -1,6 +1,7 @@
 //! The way to a normal form, from its begin to its end.
 ghost use Rattle.std.specs.Prelude.{◌≡◌, ◌<◌, false, OnOk, true, None, ◌∷◌, reverse, IfSome};
 ghost use Rattle.lt_store.specs.Trees.{tree_at};
+ghost use Rattle.lt_store.specs.Typed.{IsTyped};
 ghost use Rattle.lt_reductions.specs.Reducts.{nodes, normal_form_of};
 ghost use Rattle.lt_formulas.specs.Shapes.{is_application};
 ghost use Rattle.lt_conv.specs.declared.machine.Frame.TheVariants.{Function};

@@ -15,5 +15,5 @@ pub returns-clause-converts : goal.returns-clause-converts
 returns-clause-converts g c =
     let t = tree_at c.args.proof.now.nodes c.args.t in
     let first = g.A.Conversion.gives c.args.self.now.first (statements c.args.proof.now) t in
-    else-converts c.args.proof.now c.convert.new.proof c.convert-2.new.proof c.args.t first (g.B.Conversion.gives c.args.self.now.second) c.in_ok-line-2.line c.convert.ensures.carries c.requires.t.within.within
+    else-converts c.args.proof.now c.convert.new.proof c.convert-2.new.proof c.args.t first (g.B.Conversion.gives c.args.self.now.second) c.in_ok-line-2.line c.convert.ensures.carries c.requires.t.within
     (at-line c.convert.new.proof t first c.in_ok-line.field-0 None c.in_ok-line.ensures.converts c.in_default.is) c.in_ok-line-2.ensures.converts
