@@ -56,7 +56,21 @@ pub(crate) fn walk_text<O: Sink>(alloc: Global, text: &[u8], out: &mut O) -> Res
     if !is_of_form(alloc, text)? {
         return Ok(Ending::NotBuilt);
     }
-    let mut theory = Theory::new(alloc)?;
+    let theory = Theory::new(alloc)?;
+    walk_all(alloc, text, theory, out)
+}
+
+/// Walks through a text that is of the form, over a theory that has no item yet and then goes.
+fn walk_all<O: Sink>(alloc: Global, text: &[u8], theory: Theory, out: &mut O) -> Result<Ending, Cut>
+    requires short { length text.now ≤ plain_limit }
+    requires form { IsOfForm text.now }
+    requires stands { StandsFor empty theory }
+    ensures ended { IfOk result (λ ending.
+        IsReported text.now ending (O.written out.old) (O.written out.new)) }
+    ensures cut { IfErr result (λ _. IsCutShort text.now (O.written out.old) (O.written out.new)) }
+    ensures cause { CutByCause (O.faults out.old) (O.faults out.new) result }
+{
+    let mut theory = theory;
     walk_items(alloc, text, &mut theory, out)
 }
 
