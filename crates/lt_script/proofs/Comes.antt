@@ -13,7 +13,7 @@ use Rattle.lt_script.specs.declared.note.Note.{Note}
 use Rattle.lt_script.specs.declared.read_error.ReadError.{ReadError}
 use Rattle.lt_script.specs.declared.read_error.ReadError.TheVariants.{BadHeader, BadCommand, Syntax, BadByte, BadChar, Memory}
 use Rattle.lt_script.specs.Machine.{Move, step_on, step_part, state, onward, run, Takes}
-use Rattle.lt_script.specs.declared.mode.Mode.{Mode}
+use Rattle.lt_texts.specs.Forms.{Form}
 use Rattle.lt_script.specs.declared.reading.Next.{Next}
 use Rattle.lt_script.specs.declared.reading.Next.TheVariants.{Begins, Other}
 use Rattle.lt_script.specs.Stops.{IsWaiting, Reads, Stops, StopsAt, IsStopped, SaysNext, Heads}
@@ -130,7 +130,7 @@ is_some zero e = absurd (cc e)
 is_some (suc n) e = omega arith
 
 -- what begins where a part may begin
-pub says_next : (h : Mode) (s s' : Left) (t : Token) (w : Lexeme) (n : Next) → One t ≡ lexed s → s' ≡ after s → w ≡ lexeme t.kind (spelling s) → Heads h w t.from n → SaysNext h s s' n
+pub says_next : (h : Form) (s s' : Left) (t : Token) (w : Lexeme) (n : Next) → One t ≡ lexed s → s' ≡ after s → w ≡ lexeme t.kind (spelling s) → Heads h w t.from n → SaysNext h s s' n
 says_next h s s' t w (Begins k at) f g k' (q, c, e, i) = (c, t, sym f, q, sym e ∙ k', i, g)
 says_next h s s' t w (Other at) f g k (q, i) = (t, sym f, q, ap (step_part h) (sym k) ∙ i)
 says_next h s s' t w _ f g k i = absurd i

@@ -9,7 +9,7 @@ use Rattle.lt_script.proofs.Stacks.{reverse_snoc, under_under, over, one_symbol}
 use Rattle.std.proofs.lemmas.List.{reverse-reverse}
 use Rattle.std.specs.Option.{option_map}
 use Rattle.lt_texts.specs.Texts.{Left}
-use Rattle.lt_script.specs.declared.mode.Mode.{Mode}
+use Rattle.lt_texts.specs.Forms.{Form}
 use Rattle.lt_grammar.specs.declared.words.Head.{Head}
 use Rattle.lt_script.specs.declared.note.Note.TheVariants.{Begin}
 use Rattle.lt_script.specs.declared.reading.Next.TheVariants.{Begins}
@@ -72,10 +72,10 @@ noted true (Some k) st' m m' b (g, h) e = (k.made ++ b, (g, refl), λ u. h ∙ a
 noted false o st' m m' b t e = (b, t, λ u. absurd (cc u))
 
 -- what was read and made is the next command
-pub next_part_made : (h : Mode) (s s' s'' s''' : Left) (k : Head) (at : ℕ) (b : List Note) → Past h s s' → SaysNext h s' s'' (Begins k at)
-    → Reads (expected k) (Begin k ∷ []) s'' b s''' → is_header k ≡ false → NextNotes h s k (reverse b) s'''
+pub next_part_made : (h : Form) (s s' s'' s''' : Left) (k : Head) (at : ℕ) (b : List Note) → Past h s s' → SaysNext h s' s'' (Begins k at)
+    → Reads (expected h.number k) (Begin k ∷ []) s'' b s''' → is_header k ≡ false → NextNotes h s k (reverse b) s'''
 next_part_made h s s' s'' s''' k at b p n r o =
-    next_part h s s' s'' s''' k at (reverse b) p n (subst (λ (z : List Note). Reads (expected k) (Begin k ∷ []) s'' z s''') (sym (reverse-reverse b)) r) o
+    next_part h s s' s'' s''' k at (reverse b) p n (subst (λ (z : List Note). Reads (expected h.number k) (Begin k ∷ []) s'' z s''') (sym (reverse-reverse b)) r) o
 
 pub as_each : (k : Head) (m : Made) (b : List Note) (o : Option Command) → m ≡ put_all b nothing → option_map command_of o ≡ command_made k m
     → option_map command_of o ≡ command_made k (put_each (reverse b) nothing)
@@ -85,8 +85,8 @@ some-more : (xs ys : List Symbol) (y : Symbol) → IsWaiting (xs ++ y ∷ ys)
 some-more [] ys y = tt
 some-more (x ∷ xs) ys y = tt
 
-pub expected_waits : (k : Head) → IsWaiting (expected k)
-expected_waits Header = tt
-expected_waits Lemma = tt
-expected_waits (Item w) = some-more (map APartOf (item_row w).parts) [] semicolon
-expected_waits (Further w) = some-more (map APartOf (command_row w).parts) [] semicolon
+pub expected_waits : (n : ℕ) (k : Head) → IsWaiting (expected n k)
+expected_waits n Header = tt
+expected_waits n Lemma = tt
+expected_waits n (Item w) = some-more (map APartOf (item_row w).parts) [] semicolon
+expected_waits n (Further w) = some-more (map APartOf (command_row w).parts) [] semicolon

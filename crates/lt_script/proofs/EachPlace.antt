@@ -15,8 +15,7 @@ use Rattle.lt_grammar.specs.declared.words.Head.{Head}
 use Rattle.lt_grammar.specs.declared.words.Head.TheVariants.{Header, Lemma, Item, Command as Further}
 use Rattle.lt_grammar.specs.RowTexts.{PartText, header, item, lemma, command, text_lexemes, MayStand, commands_of}
 use Rattle.lt_grammar.specs.Words.{head_of}
-use Rattle.lt_script.specs.Modes.{form_of}
-use Rattle.lt_script.specs.declared.mode.Mode.{Mode}
+use Rattle.lt_texts.specs.Forms.{Form}
 use Rattle.lt_script.specs.declared.symbol.Symbol.{Symbol}
 use Rattle.lt_script.specs.declared.note.Note.{Note}
 use Rattle.lt_script.specs.declared.note.Note.TheVariants.{Begin as begin}
@@ -81,7 +80,7 @@ comes st b call s = comes-by (suc (length s.ahead)) st b call s (omega arith)
 
 -- ---- sentence by sentence
 
-module _ (h : Mode) where
+module _ (h : Form) where
   -- one of the three stands there
   abbrev pub Stands : Left → Type 0
   Stands s = ((c : Command) × (s' : Left) × rows.NextCommand h s c s') ⊎ rows.AtEnd h s ⊎ ((e : ReadError) × rows.FailsAt h s e)
@@ -91,34 +90,34 @@ module _ (h : Mode) where
       inr (inr (BadCommand t.from, none_fails h s s' (BadCommand t.from) p (subst (λ (l : Lexed). BeginsNone h l s' (BadCommand t.from)) (sym e) (refl, g))))
 
   -- what was read is a header, behind which all goes on, or a command
-  read-by : (s s' s'' : Left) (p : PartText) → Past h s s' → MayStand (form_of h) p → Spans s' (text_lexemes (form_of h) p []) s'' → (Past h s s'' → Stands s) → Stands s
+  read-by : (s s' s'' : Left) (p : PartText) → Past h s s' → MayStand h p → Spans s' (text_lexemes h p []) s'' → (Past h s s'' → Stands s) → Stands s
   read-by s s' s'' header p m f later = later (past_on h s s' s'' p f)
   read-by s s' s'' (item w ts) p m f later = inl (_, s'', (item w ts, past_to h s s' s'' (item w ts) p m (λ q. absurd (cc q)) f, refl))
   read-by s s' s'' (lemma l t lines) p m f later = inl (_, s'', (lemma l t lines, past_to h s s' s'' (lemma l t lines) p m (λ q. absurd (cc q)) f, refl))
   read-by s s' s'' (command w ts) p m f later = inl (_, s'', (command w ts, past_to h s s' s'' (command w ts) p m (λ q. absurd (cc q)) f, refl))
 
-  head-by : (s s' : Left) (c : Chars) (t : Placed) (k : Head) → Past h s s' → lexed s' ≡ One t → a_name c ≡ lexeme t.kind (spelling s') → head_of (form_of h) c ≡ Some k
+  head-by : (s s' : Left) (c : Chars) (t : Placed) (k : Head) → Past h s s' → lexed s' ≡ One t → a_name c ≡ lexeme t.kind (spelling s') → head_of h c ≡ Some k
       → ((s'' : Left) → length s''.ahead ≤ length (after s').ahead → Past h s s'' → Stands s) → Stands s
-  head-by s s' c t k p e q g later = by (comes (expected k) (begin k ∷ []) (call_of k) (after s'))
+  head-by s s' c t k p e q g later = by (comes (expected h.number k) (begin k ∷ []) (call_of k) (after s'))
     where
       n : IsNextLexeme s' (a_name c)
       n = record { placed = t; found = e; same = q }
 
-      by : Comes (expected k) (begin k ∷ []) (call_of k) (after s') → Stands s
+      by : Comes (expected h.number k) (begin k ∷ []) (call_of k) (after s') → Stands s
       by (inl (b, s'', r)) =
           let part = reads_part h s' s'' c k b n g r in
           read-by s s' s'' part.0 p part.1 part.2 (later s'' (spans_no_longer (after s') r.0 s'' r.1))
       by (inr (e, st)) = inr (inr (e, part_fails h s s' c k e p n g st))
 
   word-by : (s s' : Left) (t : Placed) (w : Lexeme) (o : Option Head) → Past h s s' → lexed s' ≡ One t → w ≡ lexeme t.kind (spelling s')
-      → ((s'' : Left) → length s''.ahead ≤ length (after s').ahead → Past h s s'' → Stands s) → ((c : Chars) → w ≡ a_name c → head_of (form_of h) c ≡ o) → Stands s
+      → ((s'' : Left) → length s''.ahead ≤ length (after s').ahead → Past h s s'' → Stands s) → ((c : Chars) → w ≡ a_name c → head_of h c ≡ o) → Stands s
   word-by s s' t (a_name c) None p e q later g =
-      none-begins s s' t p e (subst (λ (z : Lexeme). step_part h z ≡ None) q (ap part_move (g c refl)))
+      none-begins s s' t p e (subst (λ (z : Lexeme). step_part h z ≡ None) q (ap (part_move h.number) (g c refl)))
   word-by s s' t (a_name c) (Some k) p e q later g = head-by s s' c t k p e q (g c refl) later
   word-by s s' t w o p e q later g = none-begins s s' t p e (subst (λ (z : Lexeme). step_part h z ≡ None) q refl)
 
   head-or : Lexeme → Option Head
-  head-or (a_name c) = head_of (form_of h) c
+  head-or (a_name c) = head_of h c
   head-or w = None
 
   stands-at : (s s' : Left) (l : Lexed) → Past h s s' → lexed s' ≡ l → (IsToken (lexed s') → (s'' : Left) → length s''.ahead ≤ length (after s').ahead → Past h s s'' → Stands s) → Stands s
@@ -135,10 +134,10 @@ module _ (h : Mode) where
   stands s = stands-by (suc (length s.ahead)) s s (omega arith) (past_none h s)
 
   pub each_place : (s : Left)
-      → ((c : Command) × (s' : Left) × texts.NextCommand (form_of h) s c s') ⊎ texts.AtEnd (form_of h) s ⊎ ((e : Wrong) × texts.FailsAt (form_of h) s e)
+      → ((c : Command) × (s' : Left) × texts.NextCommand h s c s') ⊎ texts.AtEnd h s ⊎ ((e : Wrong) × texts.FailsAt h s e)
   each_place s = by (stands s)
     where
-      by : Stands s → ((c : Command) × (s' : Left) × texts.NextCommand (form_of h) s c s') ⊎ texts.AtEnd (form_of h) s ⊎ ((e : Wrong) × texts.FailsAt (form_of h) s e)
+      by : Stands s → ((c : Command) × (s' : Left) × texts.NextCommand h s c s') ⊎ texts.AtEnd h s ⊎ ((e : Wrong) × texts.FailsAt h s e)
       by (inl (c, s', n)) = inl (c, s', next_command h s c s' n)
       by (inr (inl n)) = inr (inl (at_end h s n))
       by (inr (inr (e, n))) = inr (inr (as_wrong e, fails_at h s e n))

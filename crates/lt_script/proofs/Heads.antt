@@ -12,80 +12,81 @@ use Rattle.lt_grammar.specs.declared.words.Head.{Head}
 use Rattle.lt_grammar.specs.declared.words.Head.TheVariants.{Header, Lemma, Item, Command}
 use Rattle.lt_grammar.specs.Words.{find_word, heads, head_word, head_of}
 use Rattle.lt_grammar.proofs.Distinct.{found_has, head_found}
-use Rattle.lt_script.specs.declared.mode.Mode.{Mode}
-use Rattle.lt_script.specs.declared.mode.Mode.TheVariants.{Plain, Theory}
-use Rattle.lt_script.specs.Modes.{header_word, mode_words, form_of, stands_in, kept_in}
+use Rattle.lt_script.specs.declared.form.Allowed.{Allowed}
+use Rattle.lt_script.specs.declared.form.Allowed.TheVariants.{Items, All}
+use Rattle.lt_script.specs.declared.form.Opening.{Opening}
+use Rattle.lt_script.specs.Allowed.{allowed_words, word_of, form_of, stands_in, kept_in}
 
 -- two tests of names
 name-bytes : (x y : Chars) → bytes_eq x y ≡ same_name x y
 name-bytes x y = same_from_decides (bytes_eq x y) (same_name x y) (bytes_eq-Decides x y) (name-true x y, true-name x y)
 
-pub header_head : (h : Mode) (w : Chars) → bytes_eq w (header_word h) ≡ true → Some Header ≡ head_of (form_of h) w
-header_head h w e =
-    sym (ap (head_of (form_of h)) ((bytes_eq-Decides w (header_word h)).0 e) ∙ head_found (form_of h) Header tt)
+pub header_head : (o : Opening) (a : Allowed) (w : Chars) → bytes_eq w (word_of o) ≡ true → Some Header ≡ head_of (form_of o a) w
+header_head o a w e =
+    sym (ap (head_of (form_of o a)) ((bytes_eq-Decides w (word_of o)).0 e) ∙ head_found (form_of o a) Header tt)
 
 -- a word may stand where what it begins may
-listed : (h : Mode) (k : Head) → has_name (head_word theory_text k) (mode_words h) ≡ stands_in h k
-listed Plain Header = refl
-listed Plain Lemma = refl
-listed Plain (Item TypeItem) = refl
-listed Plain (Item Const) = refl
-listed Plain (Item Axiom) = refl
-listed Plain (Item Def) = refl
-listed Plain (Item Typedef) = refl
-listed Plain (Command Law) = refl
-listed Plain (Command Corr) = refl
-listed Plain (Command Relator) = refl
-listed Plain (Command Property) = refl
-listed Plain (Command Domain) = refl
-listed Plain (Command Rule) = refl
-listed Plain (Command Lifting) = refl
-listed Plain (Command LiftingTypedef) = refl
-listed Plain (Command QuotientType) = refl
-listed Plain (Command Lift) = refl
-listed Plain (Command Parametric) = refl
-listed Plain (Command ParamRule) = refl
-listed Plain (Command Equiv) = refl
-listed Plain (Command Implies) = refl
-listed Plain (Command Carry) = refl
-listed Plain (Command AbsEq) = refl
-listed Plain (Command RepEq) = refl
-listed Theory Header = refl
-listed Theory Lemma = refl
-listed Theory (Item TypeItem) = refl
-listed Theory (Item Const) = refl
-listed Theory (Item Axiom) = refl
-listed Theory (Item Def) = refl
-listed Theory (Item Typedef) = refl
-listed Theory (Command Law) = refl
-listed Theory (Command Corr) = refl
-listed Theory (Command Relator) = refl
-listed Theory (Command Property) = refl
-listed Theory (Command Domain) = refl
-listed Theory (Command Rule) = refl
-listed Theory (Command Lifting) = refl
-listed Theory (Command LiftingTypedef) = refl
-listed Theory (Command QuotientType) = refl
-listed Theory (Command Lift) = refl
-listed Theory (Command Parametric) = refl
-listed Theory (Command ParamRule) = refl
-listed Theory (Command Equiv) = refl
-listed Theory (Command Implies) = refl
-listed Theory (Command Carry) = refl
-listed Theory (Command AbsEq) = refl
-listed Theory (Command RepEq) = refl
+listed : (a : Allowed) (k : Head) → has_name (head_word theory_text k) (allowed_words a) ≡ stands_in a k
+listed Items Header = refl
+listed Items Lemma = refl
+listed Items (Item TypeItem) = refl
+listed Items (Item Const) = refl
+listed Items (Item Axiom) = refl
+listed Items (Item Def) = refl
+listed Items (Item Typedef) = refl
+listed Items (Command Law) = refl
+listed Items (Command Corr) = refl
+listed Items (Command Relator) = refl
+listed Items (Command Property) = refl
+listed Items (Command Domain) = refl
+listed Items (Command Rule) = refl
+listed Items (Command Lifting) = refl
+listed Items (Command LiftingTypedef) = refl
+listed Items (Command QuotientType) = refl
+listed Items (Command Lift) = refl
+listed Items (Command Parametric) = refl
+listed Items (Command ParamRule) = refl
+listed Items (Command Equiv) = refl
+listed Items (Command Implies) = refl
+listed Items (Command Carry) = refl
+listed Items (Command AbsEq) = refl
+listed Items (Command RepEq) = refl
+listed All Header = refl
+listed All Lemma = refl
+listed All (Item TypeItem) = refl
+listed All (Item Const) = refl
+listed All (Item Axiom) = refl
+listed All (Item Def) = refl
+listed All (Item Typedef) = refl
+listed All (Command Law) = refl
+listed All (Command Corr) = refl
+listed All (Command Relator) = refl
+listed All (Command Property) = refl
+listed All (Command Domain) = refl
+listed All (Command Rule) = refl
+listed All (Command Lifting) = refl
+listed All (Command LiftingTypedef) = refl
+listed All (Command QuotientType) = refl
+listed All (Command Lift) = refl
+listed All (Command Parametric) = refl
+listed All (Command ParamRule) = refl
+listed All (Command Equiv) = refl
+listed All (Command Implies) = refl
+listed All (Command Carry) = refl
+listed All (Command AbsEq) = refl
+listed All (Command RepEq) = refl
 
 none-by : (y : Bool) → (let o : Option Head = if y then None else None in o) ≡ None
 none-by true = refl
 none-by false = refl
 
-kept-by : (h : Mode) (w : Chars) (o : Option Head) → find_word (head_word theory_text) heads w ≡ o → kept_in h o ≡ (if has_name w (mode_words h) then o else None)
-kept-by h w None e = sym (none-by (has_name w (mode_words h)))
-kept-by h w (Some k) e =
+kept-by : (a : Allowed) (w : Chars) (o : Option Head) → find_word (head_word theory_text) heads w ≡ o → kept_in a o ≡ (if has_name w (allowed_words a) then o else None)
+kept-by a w None e = sym (none-by (has_name w (allowed_words a)))
+kept-by a w (Some k) e =
     let word : w ≡ head_word theory_text k = found_has (head_word theory_text) heads w k e in
-    ap (λ (y : Bool). let o : Option Head = if y then Some k else None in o) (sym (ap (λ (v : Chars). has_name v (mode_words h)) word ∙ listed h k))
+    ap (λ (y : Bool). let o : Option Head = if y then Some k else None in o) (sym (ap (λ (v : Chars). has_name v (allowed_words a)) word ∙ listed a k))
 
-pub kept_head : (h : Mode) (w : Chars) → bytes_eq w (header_word h) ≡ false → kept_in h (find_word (head_word theory_text) heads w) ≡ head_of (form_of h) w
-kept_head h w e =
-    kept-by h w (find_word (head_word theory_text) heads w) refl
-    ∙ ap (λ (y : Bool). if y then Some Header else (if has_name w (mode_words h) then find_word (head_word theory_text) heads w else None)) (sym (sym (name-bytes w (header_word h)) ∙ e))
+pub kept_head : (o : Opening) (a : Allowed) (w : Chars) → bytes_eq w (word_of o) ≡ false → kept_in a (find_word (head_word theory_text) heads w) ≡ head_of (form_of o a) w
+kept_head o a w e =
+    kept-by a w (find_word (head_word theory_text) heads w) refl
+    ∙ ap (λ (y : Bool). if y then Some Header else (if has_name w (allowed_words a) then find_word (head_word theory_text) heads w else None)) (sym (sym (name-bytes w (word_of o)) ∙ e))

@@ -3,7 +3,7 @@ use Rattle.std.proofs.Common.{◌≡◌, ◌∙◌, ap, sym, refl, List, [], ◌
 use Rattle.std.proofs.lemmas.List.{reverse-append}
 use Rattle.std.specs.Option.{option_map}
 use Rattle.lt_texts.specs.Texts.{Left}
-use Rattle.lt_script.specs.declared.mode.Mode.{Mode}
+use Rattle.lt_texts.specs.Forms.{Form}
 use Rattle.lt_grammar.specs.declared.words.Head.{Head}
 use Rattle.lt_texts.specs.Commands as commands
 use Rattle.lt_grammar.specs.RowTexts.{PartText, header, item, lemma, command, commands_of}
@@ -37,13 +37,13 @@ makes : (p : PartText) (k : Head) (made : List Note) (o : Option Command) → ma
 makes p k made o e f g =
     g ∙ (λ i. command_made (f i) (put_each (e i) nothing)) ∙ ap (command_made (head_of_text p)) (each_all (text_notes p []) nothing) ∙ text_makes p
 
-pub never_none : (h : Mode) (s s' : Left) (k : Head) (made : List Note) (o : Option Command) → NextNotes h s k made s' → option_map command_of o ≡ command_made k (put_each made nothing) → o ≡ None → ⊥
+pub never_none : (h : Form) (s s' : Left) (k : Head) (made : List Note) (o : Option Command) → NextNotes h s k made s' → option_map command_of o ≡ command_made k (put_each made nothing) → o ≡ None → ⊥
 never_none h s s' k made o (p, (ps, a, m, n, f), e, q) g none =
     let w = written p n in
     let clash : None ≡ Some w.0 = ap (option_map command_of) (sym none) ∙ makes p k made o e q g ∙ w.1 in
     absurd (cc clash)
 
-pub next_made : (h : Mode) (s s' : Left) (k : Head) (made : List Note) (o : Option Command) (c : Command) → NextNotes h s k made s' → option_map command_of o ≡ command_made k (put_each made nothing) → o ≡ Some c
+pub next_made : (h : Form) (s s' : Left) (k : Head) (made : List Note) (o : Option Command) (c : Command) → NextNotes h s k made s' → option_map command_of o ≡ command_made k (put_each made nothing) → o ≡ Some c
     → NextCommand h s (command_of c) s'
 next_made h s s' k made o c (p, (ps, a, m, n, f), e, q) g some =
     let w = written p n in

@@ -8,9 +8,7 @@ use Rattle.lt_definitions.specs.Types.{Chars}
 use Rattle.lt_texts.specs.Lexemes.{Lexeme, a_name, lexeme, IsNextLexeme, Spans}
 use Rattle.lt_texts.proofs.OneReading.{one_next}
 use Rattle.lt_texts.proofs.TokenTexts.{token_shortens}
-use Rattle.lt_script.specs.Modes.{header_word, form_of}
-use Rattle.lt_script.specs.declared.mode.Mode.{Mode}
-use Rattle.lt_script.specs.declared.mode.Mode.TheVariants.{Plain, Theory}
+use Rattle.lt_texts.specs.Forms.{Form}
 use Rattle.lt_grammar.specs.declared.words.Head.{Head}
 use Rattle.lt_grammar.specs.declared.words.Head.TheVariants.{Header, Lemma, Item, Command}
 use Rattle.lt_grammar.specs.RowTexts.{PartText, header, item, lemma, command, text_lexemes, MayStand}
@@ -38,7 +36,7 @@ if_err (Ok a) P Q f h = tt
 if_err (Err e) P Q f h = f e h
 
 -- a place that is wrong is no want of memory
-pub fails : (h : Mode) (s : Left) (e : ReadError) → FailsAt h s e → Fails h s e
+pub fails : (h : Form) (s : Left) (e : ReadError) → FailsAt h s e → Fails h s e
 fails h s Memory f = tt
 fails h s (BadHeader n) f = f
 fails h s (BadCommand n) f = f
@@ -46,7 +44,7 @@ fails h s (Syntax n) f = f
 fails h s (BadByte n) f = f
 fails h s (BadChar n) f = f
 
-pub header_wrong : (h : Mode) (s : Left) (e : ReadError) → HeaderFailsAt h s e → HeaderFails h s e
+pub header_wrong : (h : Form) (s : Left) (e : ReadError) → HeaderFailsAt h s e → HeaderFails h s e
 header_wrong h s Memory f = tt
 header_wrong h s (BadHeader n) f = f
 header_wrong h s (BadCommand n) f = f
@@ -55,14 +53,14 @@ header_wrong h s (BadByte n) f = f
 header_wrong h s (BadChar n) f = f
 
 -- the word that begins a part
-next-word : (h : Mode) (s s' : Left) (k : Head) (at : ℕ) (n : SaysNext h s s' (Begins k at)) → IsNextLexeme s (a_name n.0)
+next-word : (h : Form) (s s' : Left) (k : Head) (at : ℕ) (n : SaysNext h s s' (Begins k at)) → IsNextLexeme s (a_name n.0)
 next-word h s s' k at (c, t, f, q, e, i, g) = record { placed = t; found = f; same = e }
 
 -- ---- the header
 
-pub header_read : (h : Mode) (s s' s'' : Left) (at : ℕ) (b : List Note) → SaysNext h s s' (Begins Header at) → Reads (expected Header) (Begin Header ∷ []) s' b s'' → Spans s (text_lexemes (form_of h) header []) s''
+pub header_read : (h : Form) (s s' s'' : Left) (at : ℕ) (b : List Note) → SaysNext h s s' (Begins Header at) → Reads (expected h.number Header) (Begin Header ∷ []) s' b s'' → Spans s (text_lexemes h header []) s''
 header_read h s s' s'' at b (c, t, f, q, e, i, g) r =
-    reads_header h s s'' c b (record { placed = t; found = f; same = e }) i (subst (λ (x : Left). Reads (expected Header) (Begin Header ∷ []) x b s'') g r)
+    reads_header h s s'' c b (record { placed = t; found = f; same = e }) i (subst (λ (x : Left). Reads (expected h.number Header) (Begin Header ∷ []) x b s'') g r)
 
 stopped-at : (st : List Symbol) (b : List Note) (call : ℕ → ReadError) (s : Left) (e : ReadError) (P : ReadError → Type 0) → P Memory → (StopsAt st b call s e → P e) → IsStopped st b call s e → P e
 stopped-at st b call s Memory P m f h = m
@@ -72,71 +70,71 @@ stopped-at st b call s (Syntax n) P m f h = f h
 stopped-at st b call s (BadByte n) P m f h = f h
 stopped-at st b call s (BadChar n) P m f h = f h
 
-pub header_stopped : (h : Mode) (s s' : Left) (at : ℕ) (e : ReadError) → SaysNext h s s' (Begins Header at) → IsStopped (expected Header) (Begin Header ∷ []) (call_of Header) s' e → HeaderFails h s e
+pub header_stopped : (h : Form) (s s' : Left) (at : ℕ) (e : ReadError) → SaysNext h s s' (Begins Header at) → IsStopped (expected h.number Header) (Begin Header ∷ []) (call_of Header) s' e → HeaderFails h s e
 header_stopped h s s' at e (c, t, f, q, d, i, g) st =
-    stopped-at (expected Header) (Begin Header ∷ []) (call_of Header) s' e (λ x. HeaderFails h s x) tt
-    (λ r. header_wrong h s e (header_fails h s c e (record { placed = t; found = f; same = d }) i (subst (λ (x : Left). StopsAt (expected Header) (Begin Header ∷ []) (call_of Header) x e) g r))) st
+    stopped-at (expected h.number Header) (Begin Header ∷ []) (call_of Header) s' e (λ x. HeaderFails h s x) tt
+    (λ r. header_wrong h s e (header_fails h s c e (record { placed = t; found = f; same = d }) i (subst (λ (x : Left). StopsAt (expected h.number Header) (Begin Header ∷ []) (call_of Header) x e) g r))) st
 
-no-move : (k : Head) → is_header k ≡ false → header_move (Some k) ≡ None
-no-move Header e = absurd (cc e)
-no-move Lemma e = refl
-no-move (Item w) e = refl
-no-move (Command w) e = refl
+no-move : (n : ℕ) (k : Head) → is_header k ≡ false → header_move n (Some k) ≡ None
+no-move n Header e = absurd (cc e)
+no-move n Lemma e = refl
+no-move n (Item w) e = refl
+no-move n (Command w) e = refl
 
-pub other_header : (h : Mode) (s s' : Left) (k : Head) (at : ℕ) → SaysNext h s s' (Begins k at) → is_header k ≡ false → HeaderFails h s (BadHeader at)
+pub other_header : (h : Form) (s s' : Left) (k : Head) (at : ℕ) → SaysNext h s s' (Begins k at) → is_header k ≡ false → HeaderFails h s (BadHeader at)
 other_header h s s' k at (c, t, f, q, d, i, g) o =
     no_header_fails h s (BadHeader at) (subst (λ (l : Lexed). NoHeader h l s (BadHeader at)) (sym f) (
       ap BadHeader q,
-      ap (step_header h) (sym d) ∙ ap header_move i ∙ no-move k o,
+      ap (step_header h) (sym d) ∙ ap (header_move h.number) i ∙ no-move h.number k o,
     ))
 
-part-none : (h : Mode) (w : Lexeme) → step_part h w ≡ None → step_header h w ≡ None
-part-none h (a_name c) e = by (head_of (form_of h) c) e
+part-none : (h : Form) (w : Lexeme) → step_part h w ≡ None → step_header h w ≡ None
+part-none h (a_name c) e = by (head_of h c) e
   where
-    by : (o : Option Head) → part_move o ≡ None → header_move o ≡ None
+    by : (o : Option Head) → part_move h.number o ≡ None → header_move h.number o ≡ None
     by None e = refl
     by (Some k) e = absurd (cc e)
 part-none h _ e = refl
 
-pub no_word_header : (h : Mode) (s s' : Left) (at : ℕ) → SaysNext h s s' (Other at) → HeaderFails h s (BadHeader at)
+pub no_word_header : (h : Form) (s s' : Left) (at : ℕ) → SaysNext h s s' (Other at) → HeaderFails h s (BadHeader at)
 no_word_header h s s' at (t, f, q, i) =
     no_header_fails h s (BadHeader at) (subst (λ (l : Lexed). NoHeader h l s (BadHeader at)) (sym f) (ap BadHeader q, part-none h (lexeme t.kind (spelling s)) i))
 
-pub end_header : (h : Mode) (s s' : Left) (at : ℕ) → SaysNext h s s' Ends → at ≡ length s.source → HeaderFails h s (BadHeader at)
+pub end_header : (h : Form) (s s' : Left) (at : ℕ) → SaysNext h s s' Ends → at ≡ length s.source → HeaderFails h s (BadHeader at)
 end_header h s s' at f e = no_header_fails h s (BadHeader at) (subst (λ (l : Lexed). NoHeader h l s (BadHeader at)) (sym f) (ap BadHeader e))
 
-pub byte_header : (h : Mode) (s s' : Left) (at : ℕ) → SaysNext h s s' (NoByte at) → HeaderFails h s (BadByte at)
+pub byte_header : (h : Form) (s s' : Left) (at : ℕ) → SaysNext h s s' (NoByte at) → HeaderFails h s (BadByte at)
 byte_header h s s' at f = no_header_fails h s (BadByte at) (subst (λ (l : Lexed). NoHeader h l s (BadByte at)) (sym f) refl)
 
-pub char_header : (h : Mode) (s s' : Left) (at : ℕ) → SaysNext h s s' (NoChar at) → HeaderFails h s (BadChar at)
+pub char_header : (h : Form) (s s' : Left) (at : ℕ) → SaysNext h s s' (NoChar at) → HeaderFails h s (BadChar at)
 char_header h s s' at f = no_header_fails h s (BadChar at) (subst (λ (l : Lexed). NoHeader h l s (BadChar at)) (sym f) refl)
 
 -- ---- parts
 
-pub next_end : (h : Mode) (s s' s'' : Left) → Past h s s' → SaysNext h s' s'' Ends → AtEnd h s
+pub next_end : (h : Form) (s s' s'' : Left) → Past h s s' → SaysNext h s' s'' Ends → AtEnd h s
 next_end h s s' s'' p f = past_end h s s' p f
 
-pub next_other : (h : Mode) (s s' s'' : Left) (at : ℕ) → Past h s s' → SaysNext h s' s'' (Other at) → Fails h s (BadCommand at)
+pub next_other : (h : Form) (s s' s'' : Left) (at : ℕ) → Past h s s' → SaysNext h s' s'' (Other at) → Fails h s (BadCommand at)
 next_other h s s' s'' at p (t, f, q, i) = none_fails h s s' (BadCommand at) p (subst (λ (l : Lexed). BeginsNone h l s' (BadCommand at)) (sym f) (ap BadCommand q, i))
 
-pub next_byte : (h : Mode) (s s' s'' : Left) (at : ℕ) → Past h s s' → SaysNext h s' s'' (NoByte at) → Fails h s (BadByte at)
+pub next_byte : (h : Form) (s s' s'' : Left) (at : ℕ) → Past h s s' → SaysNext h s' s'' (NoByte at) → Fails h s (BadByte at)
 next_byte h s s' s'' at p f = none_fails h s s' (BadByte at) p (subst (λ (l : Lexed). BeginsNone h l s' (BadByte at)) (sym f) refl)
 
-pub next_char : (h : Mode) (s s' s'' : Left) (at : ℕ) → Past h s s' → SaysNext h s' s'' (NoChar at) → Fails h s (BadChar at)
+pub next_char : (h : Form) (s s' s'' : Left) (at : ℕ) → Past h s s' → SaysNext h s' s'' (NoChar at) → Fails h s (BadChar at)
 next_char h s s' s'' at p f = none_fails h s s' (BadChar at) p (subst (λ (l : Lexed). BeginsNone h l s' (BadChar at)) (sym f) refl)
 
-pub next_stopped : (h : Mode) (s s' s'' : Left) (k : Head) (at : ℕ) (e : ReadError) → Past h s s' → SaysNext h s' s'' (Begins k at) → IsStopped (expected k) (Begin k ∷ []) (call_of k) s'' e → Fails h s e
+pub next_stopped : (h : Form) (s s' s'' : Left) (k : Head) (at : ℕ) (e : ReadError) → Past h s s' → SaysNext h s' s'' (Begins k at) → IsStopped (expected h.number k) (Begin k ∷ []) (call_of k) s'' e → Fails h s e
 next_stopped h s s' s'' k at e p (c, t, f, q, d, i, g) st =
-    stopped-at (expected k) (Begin k ∷ []) (call_of k) s'' e (λ x. Fails h s x) tt
-    (λ r. fails h s e (part_fails h s s' c k e p (record { placed = t; found = f; same = d }) i (subst (λ (x : Left). StopsAt (expected k) (Begin k ∷ []) (call_of k) x e) g r))) st
+    stopped-at (expected h.number k) (Begin k ∷ []) (call_of k) s'' e (λ x. Fails h s x) tt
+    (λ r. fails h s e (part_fails h s s' c k e p (record { placed = t; found = f; same = d }) i (subst (λ (x : Left). StopsAt (expected h.number k) (Begin k ∷ []) (call_of k) x e) g r))) st
 
 -- what begins with another word is no header
-no-header : (h : Mode) (s s' : Left) (c : Chars) (k : Head) (p : PartText) → IsNextLexeme s (a_name c) → head_of (form_of h) c ≡ Some k → is_header k ≡ false → Spans s (text_lexemes (form_of h) p []) s' → p ≡ header → ⊥
+no-header : (h : Form) (s s' : Left) (c : Chars) (k : Head) (p : PartText) → IsNextLexeme s (a_name c) → head_of h c ≡ Some k → is_header k ≡ false → Spans s (text_lexemes h p []) s' → p ≡ header → ⊥
 no-header h s s' c k p n i o f e =
-    let spans : Spans s (text_lexemes (form_of h) header []) s' = subst (λ (q : PartText). Spans s (text_lexemes (form_of h) q []) s') e f in
-    let words : a_name c ≡ a_name (header_word h) = one_next s (a_name c) (a_name (header_word h)) n spans.0 in
-    let same : c ≡ header_word h = cc words in
-    let heads : Some k ≡ Some Header = sym i ∙ ap (head_of (form_of h)) same ∙ head_found (form_of h) Header tt in
+    let spans : Spans s (text_lexemes h header []) s' = subst (λ (q : PartText). Spans s (text_lexemes h q []) s') e f in
+    let words : a_name c ≡ a_name h.word = one_next s (a_name c) (a_name h.word) n spans.0 in
+    let same : c ≡ h.word = cc words in
+    let heads : Some k ≡ Some Header = sym i ∙ ap (head_of h) same ∙ head_found h Header tt in
     let clash : false ≡ true = sym o ∙ ap (λ (x : Option Head). told x) heads in
     absurd (cc clash)
   where
@@ -144,33 +142,33 @@ no-header h s s' c k p n i o f e =
     told None = false
     told (Some k) = is_header k
 
-first-word : (h : Mode) (p : PartText) → (rest : List Lexeme) × (text_lexemes (form_of h) p [] ≡ a_name (head_word (form_of h) (head_of_text p)) ∷ rest)
+first-word : (h : Form) (p : PartText) → (rest : List Lexeme) × (text_lexemes h p [] ≡ a_name (head_word h (head_of_text p)) ∷ rest)
 first-word h header = (_, refl)
 first-word h (item w ts) = (_, refl)
 first-word h (lemma l t lines) = (_, refl)
 first-word h (command w ts) = (_, refl)
 
-stands-head : (h : Mode) (p : PartText) → MayStand (form_of h) p → IsHead (form_of h) (head_of_text p)
+stands-head : (h : Form) (p : PartText) → MayStand h p → IsHead h (head_of_text p)
 stands-head h header m = tt
 stands-head h (item w ts) m = m
 stands-head h (lemma l t lines) m = m
 stands-head h (command w ts) m = m
 
 -- the word tells what a part begins with
-head-is : (h : Mode) (s s' : Left) (c : Chars) (k : Head) (p : PartText) → IsNextLexeme s (a_name c) → head_of (form_of h) c ≡ Some k → MayStand (form_of h) p → Spans s (text_lexemes (form_of h) p []) s' → k ≡ head_of_text p
+head-is : (h : Form) (s s' : Left) (c : Chars) (k : Head) (p : PartText) → IsNextLexeme s (a_name c) → head_of h c ≡ Some k → MayStand h p → Spans s (text_lexemes h p []) s' → k ≡ head_of_text p
 head-is h s s' c k p n i m f =
     let w = first-word h p in
-    let spans : Spans s (a_name (head_word (form_of h) (head_of_text p)) ∷ w.0) s' = subst (λ (z : List Lexeme). Spans s z s') w.1 f in
-    let words : a_name c ≡ a_name (head_word (form_of h) (head_of_text p)) = one_next s (a_name c) (a_name (head_word (form_of h) (head_of_text p))) n spans.0 in
-    let same : c ≡ head_word (form_of h) (head_of_text p) = cc words in
-    let heads : Some k ≡ Some (head_of_text p) = sym i ∙ ap (head_of (form_of h)) same ∙ head_found (form_of h) (head_of_text p) (stands-head h p m) in
+    let spans : Spans s (a_name (head_word h (head_of_text p)) ∷ w.0) s' = subst (λ (z : List Lexeme). Spans s z s') w.1 f in
+    let words : a_name c ≡ a_name (head_word h (head_of_text p)) = one_next s (a_name c) (a_name (head_word h (head_of_text p))) n spans.0 in
+    let same : c ≡ head_word h (head_of_text p) = cc words in
+    let heads : Some k ≡ Some (head_of_text p) = sym i ∙ ap (head_of h) same ∙ head_found h (head_of_text p) (stands-head h p m) in
     cc heads
 
-pub next_part : (h : Mode) (s s' s'' s''' : Left) (k : Head) (at : ℕ) (made : List Note) → Past h s s' → SaysNext h s' s'' (Begins k at)
-    → Reads (expected k) (Begin k ∷ []) s'' (reverse made) s''' → is_header k ≡ false → NextNotes h s k made s'''
+pub next_part : (h : Form) (s s' s'' s''' : Left) (k : Head) (at : ℕ) (made : List Note) → Past h s s' → SaysNext h s' s'' (Begins k at)
+    → Reads (expected h.number k) (Begin k ∷ []) s'' (reverse made) s''' → is_header k ≡ false → NextNotes h s k made s'''
 next_part h s s' s'' s''' k at made p (c, t, f, q, d, i, g) r o =
     let n : IsNextLexeme s' (a_name c) = record { placed = t; found = f; same = d } in
-    let w = reads_part h s' s''' c k (reverse made) n i (subst (λ (x : Left). Reads (expected k) (Begin k ∷ []) x (reverse made) s''') g r) in (
+    let w = reads_part h s' s''' c k (reverse made) n i (subst (λ (x : Left). Reads (expected h.number k) (Begin k ∷ []) x (reverse made) s''') g r) in (
       w.0,
       past_to h s s' s''' w.0 p w.1 (no-header h s' s''' c k w.0 n i o w.2) w.2,
       sym (reverse-reverse made) ∙ ap reverse w.3,
@@ -181,19 +179,19 @@ pub header_only : (k : Head) → is_header k ≡ true → k ≡ Header
 header_only Header e = refl
 header_only _ e = absurd (cc e)
 
-pub next_header : (h : Mode) (s s' s'' s''' : Left) (k : Head) (at : ℕ) (b : List Note) → Past h s s' → SaysNext h s' s'' (Begins k at)
-    → Reads (expected k) (Begin k ∷ []) s'' b s''' → is_header k ≡ true → Past h s s'''
+pub next_header : (h : Form) (s s' s'' s''' : Left) (k : Head) (at : ℕ) (b : List Note) → Past h s s' → SaysNext h s' s'' (Begins k at)
+    → Reads (expected h.number k) (Begin k ∷ []) s'' b s''' → is_header k ≡ true → Past h s s'''
 next_header h s s' s'' s''' k at b p n r o =
     let same : k ≡ Header = header_only k o in
     past_on h s s' s''' p (header_read h s' s'' s''' at b (subst (λ (x : Head). SaysNext h s' s'' (Begins x at)) same n)
-    (subst (λ (x : Head). Reads (expected x) (Begin x ∷ []) s'' b s''') same r))
+    (subst (λ (x : Head). Reads (expected h.number x) (Begin x ∷ []) s'' b s''') same r))
 
 -- ---- sources and lengths
 
-pub begun_source : (h : Mode) (s s' : Left) (k : Head) (at : ℕ) → SaysNext h s s' (Begins k at) → s'.source ≡ s.source
+pub begun_source : (h : Form) (s s' : Left) (k : Head) (at : ℕ) → SaysNext h s s' (Begins k at) → s'.source ≡ s.source
 begun_source h s s' k at (c, t, f, q, d, i, g) = ap (λ (x : Left). x.source) g ∙ after_source s
 
-pub begun_shorter : (h : Mode) (s s' : Left) (k : Head) (at : ℕ) → SaysNext h s s' (Begins k at) → length s'.ahead < length s.ahead
+pub begun_shorter : (h : Form) (s s' : Left) (k : Head) (at : ℕ) → SaysNext h s s' (Begins k at) → length s'.ahead < length s.ahead
 begun_shorter h s s' k at (c, t, f, q, d, i, g) =
     let here : length (after s).ahead < length s.ahead = token_shortens s (subst IsToken (sym f) tt) in
     let same : length s'.ahead ≡ length (after s).ahead = ap (λ (x : Left). length x.ahead) g in

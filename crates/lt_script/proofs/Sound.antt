@@ -1,5 +1,4 @@
 -- What the machine takes to the end is written by the grammar, and what is expected can be met.
-use Rattle.lt_script.specs.Modes.{form_of}
 use Rattle.std.proofs.Common.{◌≡◌, ℕ, ◌∙◌, ap, ap₂, sym, refl, subst, Bool, true, false, List, [], ◌∷◌, ◌++◌, Option, Some, None, append_assoc, append-nil}
 use Rattle.std.specs.Prelude.{◌==◌, if◌then◌else◌, map, codes, bytes_eq}
 use Rattle.std.specs.List.{list_all}
@@ -8,8 +7,7 @@ use Rattle.std.proofs.lemmas.Slice.Eq.{bytes_eq-Decides}
 use Rattle.lt_texts.specs.declared.lexical.TokenKind.TheVariants as kinds
 use Rattle.lt_definitions.specs.Types.{Chars, TypeTree, TypeTrees, type_variable, type_constructor, no_types, type_and, row}
 use Rattle.lt_texts.specs.Lexemes.{Lexeme, a_name, a_variable, a_number, a_sign}
-use Rattle.lt_script.specs.declared.mode.Mode.{Mode}
-use Rattle.lt_script.specs.declared.mode.Mode.TheVariants.{Plain, Theory}
+use Rattle.lt_texts.specs.Forms.{Form}
 use Rattle.lt_grammar.specs.declared.words.Fixed.{Fixed}
 use Rattle.lt_grammar.specs.declared.words.Fixed.TheVariants as signs
 use Rattle.lt_grammar.specs.declared.words.Part.{Part}
@@ -26,9 +24,11 @@ use Rattle.lt_grammar.specs.RowTexts.{LineText, line, lines_lexemes, PartText, h
 use Rattle.lt_grammar.specs.Words.{find_word, all_rules, rule_of, rule_word, head_of, head_word}
 use Rattle.lt_grammar.proofs.Distinct.{IsHead, found_has, found_head}
 use Rattle.lt_script.specs.declared.symbol.Symbol.{Symbol}
-use Rattle.lt_script.specs.declared.symbol.Symbol.TheVariants.{«Type», Constructor, MoreTypes, Term, Inside, Brackets, Arguments, MoreTerms, BoundName, FreeName, CloseFree, LambdaName, Body, CloseLambda, KeepType, KeepTerm, Part as APartOf, One, Lines, EndLine, APart, AHeader}
+use Rattle.lt_script.specs.declared.symbol.Symbol.TheVariants.{«Type», Constructor, MoreTypes, Term, Inside, Brackets, Arguments, MoreTerms, BoundName, FreeName, CloseFree, LambdaName, Body, CloseLambda, KeepType, KeepTerm, Part as APartOf, HeaderNumber, Lines, EndLine}
 use Rattle.lt_script.specs.declared.note.Note.{Note}
-use Rattle.lt_script.specs.Machine.{Move, go, under, step_type, step_constructor, step_more_types, step_term, step_inside, step_brackets, step_arguments, step_bound_name, step_free_name, step_close_free, step_lambda_name, step_close_lambda, step_label, step_number, step_variable, step_parameters, is_fixed, step_part_of, step_one, semicolon, line_move, step_lines, step_end_line, expected, part_move, step_part, header_move, step_header, step, pass, or_pass, step_on, State, onward, run}
+use Rattle.lt_script.specs.declared.note.Note.TheVariants.{Begin as begin}
+use Rattle.lt_script.proofs.Taken.{first_run}
+use Rattle.lt_script.specs.Machine.{Move, go, under, step_type, step_constructor, step_more_types, step_term, step_inside, step_brackets, step_arguments, step_bound_name, step_free_name, step_close_free, step_lambda_name, step_close_lambda, step_label, step_number, step_variable, step_parameters, is_fixed, step_part_of, step_header_number, semicolon, line_move, step_lines, step_end_line, expected, part_move, step_part, header_move, step_header, step, pass, or_pass, step_on, State, onward, run}
 
 -- a writing of a symbol, and the rest
 abbrev pub Spells : Symbol → List Lexeme → List Lexeme → Type 0
@@ -49,11 +49,9 @@ Spells CloseLambda ws rest = ws ≡ a_sign kinds.Close ∷ rest
 Spells KeepType ws rest = ws ≡ rest
 Spells KeepTerm ws rest = ws ≡ rest
 Spells (APartOf p) ws rest = (a : Text p) × (ws ≡ part_lexemes p a rest)
-Spells One ws rest = ws ≡ number 1 ∷ rest
+Spells (HeaderNumber n) ws rest = ws ≡ number n ∷ rest
 Spells Lines ws rest = (lines : List LineText) × (ws ≡ lines_lexemes lines (a_sign kinds.CloseBrace ∷ rest))
 Spells (EndLine r) ws rest = ws ≡ a_sign kinds.Semicolon ∷ rest
-Spells (APart h) ws rest = (p : PartText) × MayStand (form_of h) p × (ws ≡ text_lexemes (form_of h) p rest)
-Spells (AHeader h) ws rest = ws ≡ text_lexemes (form_of h) header rest
 
 abbrev pub Language : List Symbol → List Lexeme → Type 0
 Language [] ws = ws ≡ []
@@ -249,13 +247,13 @@ row-spelt ps t s ws l = parts-spelt ps (t ++ s) ws (subst (λ (z : List Symbol).
 begun : (c v : Chars) (x y : List Lexeme) → c ≡ v → x ≡ y → a_name c ∷ x ≡ a_name v ∷ y
 begun c v x y e f = ap₂ (λ (z : Chars) (u : List Lexeme). a_name z ∷ u) e f
 
-is-one : (n : ℕ) (y : Bool) → (n == 1) ≡ y → Back One (number n) (if y then go [] [] else None)
-is-one n true q s us m e l = (us, ap (λ (k : ℕ). number k ∷ us) (eqb-true n 1 q), l)
-is-one n false q s us m e l = absurd (cc e)
+is-number : (k n : ℕ) (y : Bool) → (n == k) ≡ y → Back (HeaderNumber k) (number n) (if y then go [] [] else None)
+is-number k n true q s us m e l = (us, ap (λ (i : ℕ). number i ∷ us) (eqb-true n k q), l)
+is-number k n false q s us m e l = absurd (cc e)
 
-back-one : (w : Lexeme) → Back One w (step_one w)
-back-one (a_number (Some n)) = is-one n (n == 1) refl
-back-one _ = λ s us m e l. absurd (cc e)
+back-number : (k : ℕ) (w : Lexeme) → Back (HeaderNumber k) w (step_header_number k w)
+back-number k (a_number (Some n)) = is-number k n (n == k) refl
+back-number k _ = λ s us m e l. absurd (cc e)
 
 lined : (c : Chars) (o : Option RuleWord) → rule_of c ≡ o → Back Lines (a_name c) (line_move o)
 lined c None q s us m e l = absurd (cc e)
@@ -281,19 +279,28 @@ back-end-line r _ s us m e l = absurd (cc e)
 ends : (s : List Symbol) (ws : List Lexeme) → Language (semicolon ∷ s) ws → (rest : List Lexeme) × (ws ≡ a_sign kinds.Semicolon ∷ rest) × Language s rest
 ends s ws (r, (u, h), l) = (r, h, l)
 
-one-header : (h : Mode) (c : Chars) (s : List Symbol) (us : List Lexeme) → c ≡ head_word (form_of h) Header → Language (expected Header ++ s) us → (rest : List Lexeme) × (a_name c ∷ us ≡ text_lexemes (form_of h) header rest) × Language s rest
+-- the lexemes are those of a header, and of what is expected behind it
+abbrev pub BeginsHeader : Form → List Symbol → List Lexeme → Type 0
+BeginsHeader h s ws = (rest : List Lexeme) × (ws ≡ text_lexemes h header rest) × Language s rest
+
+-- the same of a sentence
+abbrev pub BeginsSentence : Form → List Symbol → List Lexeme → Type 0
+BeginsSentence h s ws =
+    (rest : List Lexeme) × ((p : PartText) × MayStand h p × (ws ≡ text_lexemes h p rest)) × Language s rest
+
+one-header : (h : Form) (c : Chars) (s : List Symbol) (us : List Lexeme) → c ≡ head_word h Header → Language (expected h.number Header ++ s) us → BeginsHeader h s (a_name c ∷ us)
 one-header h c s us same (r, k, l) =
     let q = ends s r l in
-    (q.0, begun c (head_word (form_of h) Header) us _ same (k ∙ ap (λ (x : List Lexeme). number 1 ∷ x) q.1), q.2)
+    (q.0, begun c (head_word h Header) us _ same (k ∙ ap (λ (x : List Lexeme). number h.number ∷ x) q.1), q.2)
 
-one-part : (h : Mode) (k : Head) (c : Chars) (s : List Symbol) (us : List Lexeme) → IsHead (form_of h) k → c ≡ head_word (form_of h) k
-    → Language (expected k ++ s) us → Language (APart h ∷ s) (a_name c ∷ us)
+one-part : (h : Form) (k : Head) (c : Chars) (s : List Symbol) (us : List Lexeme) → IsHead h k → c ≡ head_word h k
+    → Language (expected h.number k ++ s) us → BeginsSentence h s (a_name c ∷ us)
 one-part h Header c s us m same l = let q = one-header h c s us same l in (q.0, (header, tt, q.1), q.2)
 one-part h Lemma c s us m same l =
     let p = row-spelt lemma_parts (APartOf (Exactly signs.OpenBrace) ∷ Lines ∷ semicolon ∷ []) s us l in
     more p.0 p.1 p.2 p.3
   where
-    more : (ts : Texts lemma_parts) (rest : List Lexeme) → us ≡ parts_lexemes lemma_parts ts rest → Language (APartOf (Exactly signs.OpenBrace) ∷ Lines ∷ semicolon ∷ s) rest → Language (APart h ∷ s) (a_name c ∷ us)
+    more : (ts : Texts lemma_parts) (rest : List Lexeme) → us ≡ parts_lexemes lemma_parts ts rest → Language (APartOf (Exactly signs.OpenBrace) ∷ Lines ∷ semicolon ∷ s) rest → BeginsSentence h s (a_name c ∷ us)
     more (n, (u, (t, u'))) rest e (r, (v, i), (r', (lines, j), g)) =
         let q = ends s r' g in
         (q.0, (lemma n t lines, m, begun c (codes "lemma") us _ same (e ∙ ap (parts_lexemes lemma_parts (n, (tt, (t, tt)))) (i ∙ ap (λ (x : List Lexeme). a_sign kinds.OpenBrace ∷ x) (j ∙ ap (λ (x : List Lexeme). lines_lexemes lines (a_sign kinds.CloseBrace ∷ x)) q.1)))), q.2)
@@ -305,22 +312,6 @@ one-part h (Command w) c s us m same l =
     let p = row-spelt (command_row w).parts (semicolon ∷ []) s us l in
     let q = ends s p.1 p.3 in
     (q.0, (command w p.0, m, begun c (command_row w).word us _ same (p.2 ∙ ap (parts_lexemes (command_row w).parts p.0) q.1)), q.2)
-
-parted : (h : Mode) (c : Chars) (o : Option Head) → head_of (form_of h) c ≡ o → Back (APart h) (a_name c) (part_move o)
-parted h c None q s us m e l = absurd (cc e)
-parted h c (Some k) q s us m e l = let f = found_head (form_of h) c k q in one-part h k c s us f.1 f.0 l
-
-back-part : (h : Mode) (w : Lexeme) → Back (APart h) w (step_part h w)
-back-part h (a_name c) s us m e l = parted h c (head_of (form_of h) c) refl s us m e l
-back-part h _ s us m e l = absurd (cc e)
-
-headed : (h : Mode) (c : Chars) (o : Option Head) → head_of (form_of h) c ≡ o → Back (AHeader h) (a_name c) (header_move o)
-headed h c (Some Header) q s us m e l = let p = one-header h c s us (found_head (form_of h) c Header q).0 l in (p.0, p.1, p.2)
-headed h c _ q s us m e l = absurd (cc e)
-
-back-header : (h : Mode) (w : Lexeme) → Back (AHeader h) w (step_header h w)
-back-header h (a_name c) s us m e l = headed h c (head_of (form_of h) c) refl s us m e l
-back-header h _ s us m e l = absurd (cc e)
 
 -- ---- any symbol, any stack
 
@@ -342,11 +333,9 @@ back CloseLambda w = back-close-lambda w
 back KeepType w = λ s us m e l. absurd (cc e)
 back KeepTerm w = λ s us m e l. absurd (cc e)
 back (APartOf p) w = back-part-of p w
-back One w = back-one w
+back (HeaderNumber n) w = back-number n w
 back Lines w = back-lines w
 back (EndLine r) w = back-end-line r w
-back (APart h) w = back-part h w
-back (AHeader h) w = back-header h w
 
 -- what is passed over is written by nothing
 passed-empty : (x : Symbol) (n : Note) (ws : List Lexeme) → pass x ≡ Some n → Spells x ws ws
@@ -403,3 +392,28 @@ sound-by s w b ws b' (Some m) q ih e = back-on s w ws m q (ih m.pushed (m.made +
 pub sound : (s : List Symbol) (b : List Note) (ws : List Lexeme) (b' : List Note) → accepts s b ws ≡ Some b' → Language s ws
 sound s b [] b' e = ended s b b' e
 sound s b (w ∷ ws) b' e = sound-by s w b ws b' (step_on s w) refl (λ s' c h. sound s' c ws b' h) e
+
+-- so is what it takes from a sentence's word on
+parted : (h : Form) (c : Chars) (us : List Lexeme) (b' : List Note) (o : Option Head) → head_of h c ≡ o
+    → finished (onward (part_move h.number o) (λ m. run m.pushed m.made us)) ≡ Some b' → BeginsSentence h [] (a_name c ∷ us)
+parted h c us b' None q e = absurd (cc e)
+parted h c us b' (Some k) q e =
+    let f = found_head h c k q in
+    one-part h k c [] us f.1 f.0 (subst (λ (s : List Symbol). Language s us) (sym (append-nil (expected h.number k)))
+    (sound (expected h.number k) (begin k ∷ []) us b' e))
+
+pub sound_sentence : (h : Form) (w : Lexeme) (us : List Lexeme) (b' : List Note)
+    → finished (first_run (step_part h) (w ∷ us)) ≡ Some b' → BeginsSentence h [] (w ∷ us)
+sound_sentence h (a_name c) us b' e = parted h c us b' (head_of h c) refl e
+sound_sentence h _ us b' e = absurd (cc e)
+
+headed : (h : Form) (c : Chars) (us : List Lexeme) (b' : List Note) (o : Option Head) → head_of h c ≡ o
+    → finished (onward (header_move h.number o) (λ m. run m.pushed m.made us)) ≡ Some b' → BeginsHeader h [] (a_name c ∷ us)
+headed h c us b' (Some Header) q e =
+    one-header h c [] us (found_head h c Header q).0 (sound (expected h.number Header) (begin Header ∷ []) us b' e)
+headed h c us b' _ q e = absurd (cc e)
+
+pub sound_header : (h : Form) (w : Lexeme) (us : List Lexeme) (b' : List Note)
+    → finished (first_run (step_header h) (w ∷ us)) ≡ Some b' → BeginsHeader h [] (w ∷ us)
+sound_header h (a_name c) us b' e = headed h c us b' (head_of h c) refl e
+sound_header h _ us b' e = absurd (cc e)

@@ -1,12 +1,11 @@
 -- The machine takes each writing whole.
-use Rattle.lt_script.specs.Modes.{form_of}
-use Rattle.std.proofs.Common.{◌≡◌, ◌∙◌, ap, ap₂, refl, List, [], ◌∷◌, ◌++◌, Option, Some, None, append_assoc, append-nil}
-use Rattle.std.specs.Prelude.{map}
+use Rattle.std.proofs.Common.{◌≡◌, ℕ, ◌∙◌, ap, ap₂, refl, Bool, List, [], ◌∷◌, ◌++◌, Option, Some, None, append_assoc, append-nil}
+use Rattle.std.specs.Prelude.{map, if◌then◌else◌}
+use Rattle.std.proofs.lemmas.Bool.{eq-eqb}
 use Rattle.lt_texts.specs.declared.lexical.TokenKind.TheVariants as kinds
 use Rattle.lt_definitions.specs.Types.{Chars, TypeTree, TypeTrees, type_variable, type_constructor, no_types, type_and, row}
 use Rattle.lt_texts.specs.Lexemes.{Lexeme, a_name, a_sign}
-use Rattle.lt_script.specs.declared.mode.Mode.{Mode}
-use Rattle.lt_script.specs.declared.mode.Mode.TheVariants.{Plain, Theory}
+use Rattle.lt_texts.specs.Forms.{Form}
 use Rattle.lt_grammar.specs.declared.words.Fixed.{Fixed}
 use Rattle.lt_grammar.specs.declared.words.Fixed.TheVariants as signs
 use Rattle.lt_grammar.specs.declared.words.Part.{Part}
@@ -22,11 +21,11 @@ use Rattle.lt_grammar.specs.Words.{rule_word, head_word}
 use Rattle.lt_grammar.proofs.Distinct.{rule_found, head_found, IsHead}
 use Rattle.lt_grammar.proofs.OneWay.{IsClear, term_clear, terms_clear, parts_clear}
 use Rattle.lt_script.specs.declared.symbol.Symbol.{Symbol}
-use Rattle.lt_script.specs.declared.symbol.Symbol.TheVariants.{«Type», MoreTypes, Term, Inside, Brackets, Arguments, MoreTerms, CloseFree, Body, CloseLambda, KeepType, KeepTerm, Part as APartOf, Lines, EndLine, APart, AHeader}
+use Rattle.lt_script.specs.declared.symbol.Symbol.TheVariants.{«Type», MoreTypes, Term, Inside, Brackets, Arguments, MoreTerms, CloseFree, Body, CloseLambda, KeepType, KeepTerm, Part as APartOf, Lines, EndLine, HeaderNumber}
 use Rattle.lt_script.specs.declared.note.Note.{Note}
 use Rattle.lt_script.specs.declared.note.Note.TheVariants.{TypeOpen as type_open, TypeClose as type_close, KeepType as keep_type, ConstantName as constant_name, NoArguments as no_arguments, Arguments as arguments, FreeName as free_name, LambdaName as lambda_name, Apply as apply, KeepTerm as keep_term, Parameter as parameter, BeginLine as begin_line, EndLine as end_line, Begin as begin}
 use Rattle.lt_script.specs.Notes.{type_notes, types_notes, later_notes, arguments_notes, term_notes, terms_notes, parameters_notes, part_notes, parts_notes, lines_notes, text_notes}
-use Rattle.lt_script.specs.Machine.{Move, under, semicolon, line_move, expected, part_move, or_pass, step_on, onward, run}
+use Rattle.lt_script.specs.Machine.{Move, go, under, semicolon, line_move, expected, part_move, step_part, header_move, step_header, or_pass, step_on, State, state, onward, run}
 
 -- ---- what is passed over
 
@@ -221,28 +220,44 @@ takes_lines (line w ts ∷ lines) s b rest =
     ∙ row-behind (rule_row w).parts ts (EndLine w ∷ Lines ∷ []) s (begin_line w ∷ b) (a_sign kinds.Semicolon ∷ lines_lexemes lines (a_sign kinds.CloseBrace ∷ rest)) tt
     ∙ takes_lines lines s (end_line w ∷ parts_notes (rule_row w).parts ts (begin_line w ∷ b)) rest
 
--- ---- parts of a text
+-- ---- sentences
 
-begun-part : (h : Mode) (k : Head) (s : List Symbol) (b : List Note) (ws : List Lexeme) → IsHead (form_of h) k
-    → run (APart h ∷ s) b (a_name (head_word (form_of h) k) ∷ ws) ≡ run (expected k ++ s) (begin k ∷ b) ws
-begun-part h k s b ws m =
-    ap (λ (o : Option Head). onward (or_pass (under s [] (part_move o)) None (step_on s (a_name (head_word (form_of h) k)))) (λ m. run m.pushed (m.made ++ b) ws)) (head_found (form_of h) k m)
+pub takes_number : (n : ℕ) (s : List Symbol) (b : List Note) (rest : List Lexeme)
+    → run (HeaderNumber n ∷ s) b (number n ∷ rest) ≡ run s b rest
+takes_number n s b rest =
+    ap (λ (y : Bool). onward (or_pass (under s [] (if y then go [] [] else None)) None (step_on s (number n)))
+    (λ m. run m.pushed (m.made ++ b) rest)) (eq-eqb n n refl)
 
-pub takes_text : (h : Mode) (p : PartText) (s : List Symbol) (b : List Note) (rest : List Lexeme) → MayStand (form_of h) p
-    → run (APart h ∷ s) b (text_lexemes (form_of h) p rest) ≡ run s (text_notes p b) rest
-takes_text h header s b rest m = begun-part h Header s b (number 1 ∷ a_sign kinds.Semicolon ∷ rest) tt
-takes_text h (item w ts) s b rest m =
-    begun-part h (Item w) s b (parts_lexemes (item_row w).parts ts (a_sign kinds.Semicolon ∷ rest)) m
-    ∙ row-behind (item_row w).parts ts (semicolon ∷ []) s (begin (Item w) ∷ b) (a_sign kinds.Semicolon ∷ rest) tt
-takes_text h (lemma l p lines) s b rest m =
-    begun-part h Lemma s b (parts_lexemes lemma_parts (l, (tt, (p, tt))) (a_sign kinds.OpenBrace ∷ lines_lexemes lines (a_sign kinds.CloseBrace ∷ a_sign kinds.Semicolon ∷ rest))) m
-    ∙ row-behind lemma_parts (l, (tt, (p, tt))) (APartOf (Exactly signs.OpenBrace) ∷ Lines ∷ semicolon ∷ []) s (begin Lemma ∷ b)
+-- What lexemes make from the place on where a sentence may begin, of which `first` takes the first
+-- one; before that something is expected.
+abbrev pub first_run : (Lexeme → Option Move) → List Lexeme → Option State
+first_run first [] = Some (state (Lines ∷ []) [])
+first_run first (w ∷ ws) = onward (first w) (λ m. run m.pushed m.made ws)
+
+begun-part : (h : Form) (k : Head) (ws : List Lexeme) → IsHead h k
+    → first_run (step_part h) (a_name (head_word h k) ∷ ws) ≡ run (expected h.number k) (begin k ∷ []) ws
+begun-part h k ws m =
+    ap (λ (o : Option Head). onward (part_move h.number o) (λ m. run m.pushed m.made ws)) (head_found h k m)
+
+pub takes_text : (h : Form) (p : PartText) (rest : List Lexeme) → MayStand h p
+    → first_run (step_part h) (text_lexemes h p rest) ≡ run [] (text_notes p []) rest
+takes_text h header rest m =
+    begun-part h Header (number h.number ∷ a_sign kinds.Semicolon ∷ rest) tt
+    ∙ takes_number h.number (semicolon ∷ []) (begin Header ∷ []) (a_sign kinds.Semicolon ∷ rest)
+takes_text h (item w ts) rest m =
+    begun-part h (Item w) (parts_lexemes (item_row w).parts ts (a_sign kinds.Semicolon ∷ rest)) m
+    ∙ takes_parts (item_row w).parts ts (semicolon ∷ []) (begin (Item w) ∷ []) (a_sign kinds.Semicolon ∷ rest) tt
+takes_text h (lemma l p lines) rest m =
+    begun-part h Lemma (parts_lexemes lemma_parts (l, (tt, (p, tt))) (a_sign kinds.OpenBrace ∷ lines_lexemes lines (a_sign kinds.CloseBrace ∷ a_sign kinds.Semicolon ∷ rest))) m
+    ∙ takes_parts lemma_parts (l, (tt, (p, tt))) (APartOf (Exactly signs.OpenBrace) ∷ Lines ∷ semicolon ∷ []) (begin Lemma ∷ [])
     (a_sign kinds.OpenBrace ∷ lines_lexemes lines (a_sign kinds.CloseBrace ∷ a_sign kinds.Semicolon ∷ rest)) tt
-    ∙ takes_lines lines (semicolon ∷ s) (parts_notes lemma_parts (l, (tt, (p, tt))) (begin Lemma ∷ b)) (a_sign kinds.Semicolon ∷ rest)
-takes_text h (command w ts) s b rest m =
-    begun-part h (Command w) s b (parts_lexemes (command_row w).parts ts (a_sign kinds.Semicolon ∷ rest)) m
-    ∙ row-behind (command_row w).parts ts (semicolon ∷ []) s (begin (Command w) ∷ b) (a_sign kinds.Semicolon ∷ rest) tt
+    ∙ takes_lines lines (semicolon ∷ []) (parts_notes lemma_parts (l, (tt, (p, tt))) (begin Lemma ∷ [])) (a_sign kinds.Semicolon ∷ rest)
+takes_text h (command w ts) rest m =
+    begun-part h (Command w) (parts_lexemes (command_row w).parts ts (a_sign kinds.Semicolon ∷ rest)) m
+    ∙ takes_parts (command_row w).parts ts (semicolon ∷ []) (begin (Command w) ∷ []) (a_sign kinds.Semicolon ∷ rest) tt
 
-pub takes_header : (h : Mode) (s : List Symbol) (b : List Note) (rest : List Lexeme) → run (AHeader h ∷ s) b (text_lexemes (form_of h) header rest) ≡ run s (begin Header ∷ b) rest
-takes_header Plain s b rest = refl
-takes_header Theory s b rest = refl
+pub takes_header : (h : Form) (rest : List Lexeme)
+    → first_run (step_header h) (text_lexemes h header rest) ≡ run [] (begin Header ∷ []) rest
+takes_header h rest =
+    ap (λ (o : Option Head). onward (header_move h.number o) (λ m. run m.pushed m.made (number h.number ∷ a_sign kinds.Semicolon ∷ rest))) (head_found h Header tt)
+    ∙ takes_number h.number (semicolon ∷ []) (begin Header ∷ []) (a_sign kinds.Semicolon ∷ rest)

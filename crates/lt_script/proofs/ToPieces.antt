@@ -24,8 +24,6 @@ use Rattle.lt_grammar.specs.Words.{head_word}
 use Rattle.lt_grammar.proofs.RowReading.{head_of_part}
 use Rattle.lt_grammar.proofs.RowPieces.{join_written, split_written, sentence_written, written_sentence, may_allowed, allowed_may}
 use Rattle.lt_grammar.proofs.Splits.{text_splits}
-use Rattle.lt_script.specs.Modes.{header_word, form_of}
-use Rattle.lt_script.specs.declared.mode.Mode.{Mode}
 use Rattle.lt_script.specs.declared.read_error.ReadError.{ReadError}
 use Rattle.lt_script.specs.declared.read_error.ReadError.TheVariants.{BadHeader, BadCommand, Syntax, BadByte, BadChar, Memory}
 use Rattle.lt_script.specs.Promises.{as_wrong, Refuses, RefusesHeader}
@@ -65,9 +63,9 @@ headers-stand : (f : Form) (ps : List PartText) → rows.AreHeaders ps → MaySt
 headers-stand f [] a = tt
 headers-stand f (p ∷ ps) (e, a) = (subst (MayStand f) (sym e) tt, headers-stand f ps a)
 
-module _ (h : Mode) where
+module _ (h : Form) where
   abbrev form : Form
-  form = form_of h
+  form = h
 
   -- ---- a command, and the end
 
@@ -161,15 +159,15 @@ module _ (h : Mode) where
   by-word true n = refl
   by-word false n = refl
 
-  is-own : (w : Chars) → w ≡ form.word → bytes_eq w (header_word h) ≡ true
-  is-own w e = (bytes_eq-Decides w (header_word h)).1 e
+  is-own : (w : Chars) → w ≡ form.word → bytes_eq w h.word ≡ true
+  is-own w e = (bytes_eq-Decides w h.word).1 e
 
-  no-own-word : (w v : Chars) → may_stand form v ≡ true → w ≡ v → (y : Bool) → bytes_eq w (header_word h) ≡ y → (n : ℕ) → (if y then texts.bad_header n else texts.bad_syntax n) ≡ texts.bad_syntax n
-  no-own-word w v m e true q n = absurd (no-own (ap (may_stand form) (sym ((bytes_eq-Decides w (header_word h)).0 q) ∙ e) ∙ m))
+  no-own-word : (w v : Chars) → may_stand form v ≡ true → w ≡ v → (y : Bool) → bytes_eq w h.word ≡ y → (n : ℕ) → (if y then texts.bad_header n else texts.bad_syntax n) ≡ texts.bad_syntax n
+  no-own-word w v m e true q n = absurd (no-own (ap (may_stand form) (sym ((bytes_eq-Decides w h.word).0 q) ∙ e) ∙ m))
   no-own-word w v m e false q n = refl
 
   by-command : (c : Command) (w v : Chars) (ws : List Lexeme) (n : ℕ) → may_stand form v ≡ true → a_name w ≡ a_name v → as_wrong (rows.called h (a_name w ∷ ws) n) ≡ texts.called (a_command c) (a_name w ∷ ws) n
-  by-command c w v ws n m e = let same : w ≡ v = cc e in by-word (bytes_eq w (header_word h)) n ∙ no-own-word w v m same (bytes_eq w (header_word h)) refl n
+  by-command c w v ws n m e = let same : w ≡ v = cc e in by-word (bytes_eq w h.word) n ∙ no-own-word w v m same (bytes_eq w h.word) refl n
 
   -- the first lexeme of a sentence is its word
   calls-by : (p : PartText) (ws : List Lexeme) (w : Lexeme) (more : List Lexeme) → MayStand form p → ws ++ w ∷ more ≡ text_lexemes form p [] → (n : ℕ)
@@ -178,7 +176,7 @@ module _ (h : Mode) where
   calls-by header (a_name c ∷ ws) w more m e n =
       let first : a_name c ≡ a_name form.word = cc e in
       let same : c ≡ form.word = cc first in
-      by-word (bytes_eq c (header_word h)) n ∙ ap (λ (y : Bool). if y then texts.bad_header n else texts.bad_syntax n) (is-own c same)
+      by-word (bytes_eq c h.word) n ∙ ap (λ (y : Bool). if y then texts.bad_header n else texts.bad_syntax n) (is-own c same)
   calls-by (item v ts) (a_name c ∷ ws) w more m e n = by-command _ c _ ws n m (cc e)
   calls-by (lemma l t lines) (a_name c ∷ ws) w more m e n = by-command _ c _ ws n m (cc e)
   calls-by (command v ts) (a_name c ∷ ws) w more m e n = by-command _ c _ ws n m (cc e)

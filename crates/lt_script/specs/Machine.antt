@@ -1,9 +1,8 @@
 -- What a lexeme makes of a stack of expectations, and what is noted on the way, both the newest first.
-use Rattle.lt_script.specs.Modes.{form_of}
-use Rattle.std.specs.Prelude.{◌≡◌, ◌==◌, List, [], ◌∷◌, ◌++◌, map, Option, Some, None, Bool, true, false, if◌then◌else◌, codes, bytes_eq}
+use Rattle.std.specs.Prelude.{◌≡◌, ◌==◌, ℕ, List, [], ◌∷◌, ◌++◌, map, Option, Some, None, Bool, true, false, if◌then◌else◌, codes, bytes_eq}
 use Rattle.lt_texts.specs.declared.lexical.TokenKind.TheVariants as kinds
 use Rattle.lt_texts.specs.Lexemes.{Lexeme, a_name, a_variable, a_number, a_sign}
-use Rattle.lt_script.specs.declared.mode.Mode.{Mode}
+use Rattle.lt_texts.specs.Forms.{Form}
 use Rattle.lt_grammar.specs.declared.words.Fixed.{Fixed}
 use Rattle.lt_grammar.specs.declared.words.Fixed.TheVariants as signs
 use Rattle.lt_grammar.specs.declared.words.Part.{Part}
@@ -14,7 +13,7 @@ use Rattle.lt_grammar.specs.declared.words.Head.TheVariants.{Header, Lemma, Item
 use Rattle.lt_grammar.specs.Table.{rule_row, item_row, lemma_parts, command_row}
 use Rattle.lt_grammar.specs.Words.{rule_of, head_of}
 use Rattle.lt_script.specs.declared.symbol.Symbol.{Symbol}
-use Rattle.lt_script.specs.declared.symbol.Symbol.TheVariants.{«Type», Constructor, MoreTypes, Term, Inside, Brackets, Arguments, MoreTerms, BoundName, FreeName, CloseFree, LambdaName, Body, CloseLambda, KeepType, KeepTerm, Part as APartOf, One, Lines, EndLine, APart, AHeader}
+use Rattle.lt_script.specs.declared.symbol.Symbol.TheVariants.{«Type», Constructor, MoreTypes, Term, Inside, Brackets, Arguments, MoreTerms, BoundName, FreeName, CloseFree, LambdaName, Body, CloseLambda, KeepType, KeepTerm, Part as APartOf, HeaderNumber, Lines, EndLine}
 use Rattle.lt_script.specs.declared.note.Note.{Note}
 use Rattle.lt_script.specs.declared.word.Word.{Word}
 use Rattle.lt_script.specs.declared.word.Word.TheVariants.{Name, Variable as VariableWord, Number as NumberWord, Sign}
@@ -128,9 +127,13 @@ step_part_of AStatement w = under (KeepTerm ∷ []) [] (step_term w)
 step_part_of ATerm w = under (KeepTerm ∷ []) [] (step_term w)
 step_part_of (Exactly k) w = if is_fixed k w then go [] [] else None
 
-abbrev pub step_one : Lexeme → Option Move
-step_one (a_number (Some n)) = if n == 1 then go [] [] else None
-step_one _ = None
+-- whether it is that number
+abbrev pub is_number : ℕ → Lexeme → Bool
+is_number k (a_number (Some n)) = n == k
+is_number k _ = false
+
+abbrev pub step_header_number : ℕ → Lexeme → Option Move
+step_header_number k w = if is_number k w then go [] [] else None
 
 abbrev pub semicolon : Symbol
 semicolon = APartOf (Exactly signs.Semicolon)
@@ -148,27 +151,30 @@ abbrev pub step_end_line : RuleWord → Lexeme → Option Move
 step_end_line r (a_sign kinds.Semicolon) = go [] (end_line r ∷ [])
 step_end_line r _ = None
 
--- what is expected behind the word of a part
-abbrev pub expected : Head → List Symbol
-expected Header = One ∷ semicolon ∷ []
-expected Lemma = map APartOf lemma_parts ++ APartOf (Exactly signs.OpenBrace) ∷ Lines ∷ semicolon ∷ []
-expected (Item w) = map APartOf (item_row w).parts ++ semicolon ∷ []
-expected (Command w) = map APartOf (command_row w).parts ++ semicolon ∷ []
+-- what is expected behind the word of a sentence, where the header has this number
+abbrev pub expected : ℕ → Head → List Symbol
+expected n Header = HeaderNumber n ∷ semicolon ∷ []
+expected n Lemma = map APartOf lemma_parts ++ APartOf (Exactly signs.OpenBrace) ∷ Lines ∷ semicolon ∷ []
+expected n (Item w) = map APartOf (item_row w).parts ++ semicolon ∷ []
+expected n (Command w) = map APartOf (command_row w).parts ++ semicolon ∷ []
 
-abbrev pub part_move : Option Head → Option Move
-part_move None = None
-part_move (Some k) = go (expected k) (begin k ∷ [])
+-- what the word of a sentence makes of nothing
+abbrev pub part_move : ℕ → Option Head → Option Move
+part_move n None = None
+part_move n (Some k) = go (expected n k) (begin k ∷ [])
 
-abbrev pub step_part : Mode → Lexeme → Option Move
-step_part h (a_name w) = part_move (head_of (form_of h) w)
+-- the same of what stands where a sentence of a text of the form may begin
+abbrev pub step_part : Form → Lexeme → Option Move
+step_part h (a_name w) = part_move h.number (head_of h w)
 step_part h _ = None
 
-abbrev pub header_move : Option Head → Option Move
-header_move (Some Header) = part_move (Some Header)
-header_move _ = None
+abbrev pub header_move : ℕ → Option Head → Option Move
+header_move n (Some Header) = part_move n (Some Header)
+header_move n _ = None
 
-abbrev pub step_header : Mode → Lexeme → Option Move
-step_header h (a_name w) = header_move (head_of (form_of h) w)
+-- and where its header must begin
+abbrev pub step_header : Form → Lexeme → Option Move
+step_header h (a_name w) = header_move h.number (head_of h w)
 step_header h _ = None
 
 -- what a lexeme makes of one symbol
@@ -190,11 +196,9 @@ step CloseLambda w = step_close_lambda w
 step KeepType w = None
 step KeepTerm w = None
 step (APartOf p) w = step_part_of p w
-step One w = step_one w
+step (HeaderNumber n) w = step_header_number n w
 step Lines w = step_lines w
 step (EndLine r) w = step_end_line r w
-step (APart h) w = step_part h w
-step (AHeader h) w = step_header h w
 
 -- what is noted where a symbol is passed over, if it may be
 abbrev pub pass : Symbol → Option Note

@@ -4,7 +4,8 @@ ghost use Rattle.lt_texts.specs.Lexemes.{lexeme};
 ghost use Rattle.lt_texts.specs.Slices.{IsSlice, bytes_of};
 ghost use Rattle.lt_texts.specs.Spelling.{is_spelt, is_type_variable};
 ghost use Rattle.lt_script.specs.declared.note.Note.TheVariants as notes;
-ghost use Rattle.lt_script.specs.Machine.{meant, expected};
+ghost use Rattle.lt_script.specs.Allowed.{form_of};
+ghost use Rattle.lt_script.specs.Machine.{meant};
 ghost use Rattle.lt_script.specs.Stops.{Reads, IsStopped, SaysNext, Heads, call_of};
 
 use crate::read_error::ReadError;
@@ -12,7 +13,7 @@ use crate::table::head_of;
 use crate::word::Word;
 use lt_texts::lexical::{Lexed, Token, TokenKind};
 use lt_grammar::words::{Head};
-use crate::mode::Mode;
+use crate::form::{Allowed, Opening};
 use lt_lex::{Lexer, parse_number};
 use lt_types::{Memory, Name};
 use std::alloc::Global;
@@ -29,9 +30,14 @@ pub enum Next {
     BadChar(usize),
 }
 
-/// What stands next where a part of a text of this mode may begin.
-pub fn next_head(alloc: Global, lexer: &mut Lexer<'_>, mode: Mode) -> Result<Next, Memory>
-    ensures next { IfOk result (λ n. SaysNext mode lexer.old lexer.new n) }
+/// What stands next where a sentence of a text of this form may begin.
+pub fn next_head(
+    alloc: Global,
+    lexer: &mut Lexer<'_>,
+    opening: &Opening,
+    allowed: Allowed,
+) -> Result<Next, Memory>
+    ensures next { IfOk result (λ n. SaysNext (form_of opening.now allowed) lexer.old lexer.new n) }
 {
     let token = match lexer.next_token() {
         Lexed::Token(token) => token,
@@ -40,17 +46,17 @@ pub fn next_head(alloc: Global, lexer: &mut Lexer<'_>, mode: Mode) -> Result<Nex
         Lexed::BadChar(at) => return Ok(Next::BadChar(at)),
     };
     let word = word_of(alloc, lexer, token)?;
-    Ok(head_at(mode, word, token.from))
+    Ok(head_at(opening, allowed, word, token.from))
 }
 
 /// What a word at a place begins.
-fn head_at(mode: Mode, word: Word, at: usize) -> Next
-    ensures { Heads mode (meant word) at result }
+fn head_at(opening: &Opening, allowed: Allowed, word: Word, at: usize) -> Next
+    ensures { Heads (form_of opening.now allowed) (meant word) at result }
 {
     let Word::Name(name) = word else {
         return Next::Other(at);
     };
-    match head_of(mode, &name) {
+    match head_of(opening, allowed, &name) {
         Some(head) => Next::Begins(head, at),
         None => Next::Other(at),
     }

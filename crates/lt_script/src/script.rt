@@ -4,7 +4,7 @@ ghost use Rattle.lt_script.specs.declared.note.Note.{Note};
 ghost use Rattle.lt_script.specs.declared.note.Note.TheVariants.{Begin};
 ghost use Rattle.lt_script.specs.Machine.{expected};
 ghost use Rattle.lt_script.specs.Making.{nothing, put_all};
-ghost use Rattle.lt_script.specs.Modes.{form_of};
+ghost use Rattle.lt_script.specs.Allowed.{form_of};
 ghost use Rattle.lt_script.specs.Promises.{Refuses};
 ghost use Rattle.lt_script.specs.Reading as rows;
 ghost use Rattle.lt_texts.specs.WrongPlaces.{AtEnd, NextCommand};
@@ -16,21 +16,30 @@ use crate::taking::{expect_head, take};
 use crate::maker::Maker;
 use lt_texts::lexical::Lexed;
 use lt_grammar::words::{Head};
-use crate::mode::Mode;
+use crate::form::{Allowed, Opening};
 use lt_lex::Lexer;
 use crate::read_error::ReadError;
 use crate::reading::{Next, next_head, word_of, wrong_at};
 use std::alloc::Global;
 
-/// What stands next, behind the word of a part, makes; `end` is the text's length.
-fn read(alloc: Global, lexer: &mut Lexer<'_>, end: usize, head: Head) -> Result<Maker, ReadError>
+/// What stands next, behind the word of a sentence, makes; `end` is the text's length.
+fn read(
+    alloc: Global,
+    lexer: &mut Lexer<'_>,
+    end: usize,
+    number: u32,
+    head: Head,
+) -> Result<Maker, ReadError>
     requires { end ≡ length lexer.old.source }
-    ensures read { IfOk result (λ m. (b : List Note) × Reads (expected head) (Begin head ∷ []) lexer.old b lexer.new × (made_of m ≡ put_all b nothing)) }
-    ensures wrong { IfErr result (λ e. IsStopped (expected head) (Begin head ∷ []) (call_of head) lexer.old e) }
+    ensures read { IfOk result (λ m. (b : List Note)
+        × Reads (expected number head) (Begin head ∷ []) lexer.old b lexer.new
+        × (made_of m ≡ put_all b nothing)) }
+    ensures wrong { IfErr result
+        (λ e. IsStopped (expected number head) (Begin head ∷ []) (call_of head) lexer.old e) }
 {
     let mut stack = Vec::new(alloc);
     let mut made = Maker::new(alloc);
-    expect_head(&mut stack, head)?;
+    expect_head(&mut stack, number, head)?;
     'words: loop {
         let token = match lexer.next_token() {
             Lexed::Token(token) => token,
@@ -55,14 +64,15 @@ pub fn read_command(
     alloc: Global,
     lexer: &mut Lexer<'_>,
     end: usize,
-    mode: Mode,
+    opening: &Opening,
+    allowed: Allowed,
 ) -> Result<Option<Command>, ReadError>
     requires { end ≡ length lexer.old.source }
-    ensures command { IfOk result (λ o. MatchOption o (AtEnd (form_of mode) lexer.old)
-        (λ c. NextCommand (form_of mode) lexer.old (command_of c) lexer.new)) }
-    ensures wrong { IfErr result (λ e. Refuses (form_of mode) lexer.old e) }
+    ensures command { IfOk result (λ o. MatchOption o (AtEnd (form_of opening.now allowed) lexer.old)
+        (λ c. NextCommand (form_of opening.now allowed) lexer.old (command_of c) lexer.new)) }
+    ensures wrong { IfErr result (λ e. Refuses (form_of opening.now allowed) lexer.old e) }
 {
-    next_by_rows(alloc, lexer, end, mode)
+    next_by_rows(alloc, lexer, end, opening, allowed)
 }
 
 /// The same, by rows.
@@ -70,16 +80,18 @@ fn next_by_rows(
     alloc: Global,
     lexer: &mut Lexer<'_>,
     end: usize,
-    mode: Mode,
+    opening: &Opening,
+    allowed: Allowed,
 ) -> Result<Option<Command>, ReadError>
     requires { end ≡ length lexer.old.source }
-    ensures command { IfOk result (λ o. MatchOption o (rows.AtEnd mode lexer.old) (λ c. rows.NextCommand mode lexer.old (command_of c) lexer.new)) }
-    ensures wrong { IfErr result (λ e. rows.Fails mode lexer.old e) }
+    ensures command { IfOk result (λ o. MatchOption o (rows.AtEnd (form_of opening.now allowed) lexer.old)
+        (λ c. rows.NextCommand (form_of opening.now allowed) lexer.old (command_of c) lexer.new)) }
+    ensures wrong { IfErr result (λ e. rows.Fails (form_of opening.now allowed) lexer.old e) }
 {
     'parts: loop {
-        match next_head(alloc, lexer, mode)? {
+        match next_head(alloc, lexer, opening, allowed)? {
             Next::End => return Ok(None),
-            Next::Begins(head, _) => match read(alloc, lexer, end, head) {
+            Next::Begins(head, _) => match read(alloc, lexer, end, opening.number, head) {
                 Ok(maker) => {
                     if !is_header(head) {
                         let Some(command) = maker.command(head) else {

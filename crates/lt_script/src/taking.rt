@@ -2,7 +2,7 @@
 ghost use Rattle.std.specs.Prelude.{◌≡◌, ◌++◌, [], ◌∷◌, Option, Some, None, map, reverse, IfOk, OnOk};
 ghost use Rattle.lt_grammar.specs.declared.words.Part.TheVariants as parts;
 ghost use Rattle.lt_script.specs.declared.symbol.Symbol.TheVariants as symbols;
-ghost use Rattle.lt_script.specs.Machine.{meant, passed, is_fixed, step, step_on, step_type, step_constructor, step_more_types, step_term, step_inside, step_brackets, step_arguments, step_bound_name, step_free_name, step_close_free, step_lambda_name, step_close_lambda, step_label, step_number, step_variable, step_parameters, step_part_of, step_one, step_lines, step_end_line, step_part, step_header, expected};
+ghost use Rattle.lt_script.specs.Machine.{meant, passed, is_fixed, is_number, step, step_on, step_type, step_constructor, step_more_types, step_term, step_inside, step_brackets, step_arguments, step_bound_name, step_free_name, step_close_free, step_lambda_name, step_close_lambda, step_label, step_number, step_variable, step_parameters, step_part_of, step_lines, step_end_line, expected};
 ghost use Rattle.lt_script.specs.Making.{nothing};
 ghost use Rattle.lt_script.specs.Moves.{MovesTo, TakesTo, SettlesTo};
 ghost use Rattle.lt_script.specs.Views.{made_of};
@@ -10,12 +10,9 @@ ghost use Rattle.lt_script.specs.Views.{made_of};
 use crate::maker::Maker;
 use lt_texts::lexical::TokenKind;
 use lt_grammar::words::{Fixed, Head, Part, RuleWord};
-use crate::mode::Mode;
 use crate::note::Note;
 use crate::symbol::Symbol;
-use crate::table::{
-    command_parts, head_of, is_word, item_parts, lemma_parts, rule_of, rule_parts,
-};
+use crate::table::{command_parts, is_word, item_parts, lemma_parts, rule_of, rule_parts};
 use crate::word::Word;
 use lt_types::Memory;
 use std::alloc::Global;
@@ -96,11 +93,9 @@ fn take_symbol(
         Symbol::CloseLambda => Ok(take_close_lambda(alloc, made, word)?),
         Symbol::KeepType | Symbol::KeepTerm => Ok(false),
         Symbol::Part(part) => Ok(take_part_of(alloc, stack, made, part, word)?),
-        Symbol::One => Ok(matches!(word, Word::Number(Some(1)))),
+        Symbol::HeaderNumber(number) => Ok(is_number(number, &word)),
         Symbol::Lines => Ok(take_line(alloc, stack, made, word)?),
         Symbol::EndLine(rule) => Ok(take_end_line(alloc, made, rule, word)?),
-        Symbol::APart(mode) => Ok(take_part(alloc, stack, made, mode, word)?),
-        Symbol::AHeader(mode) => Ok(take_header(alloc, stack, made, mode, word)?),
     }
 }
 
@@ -493,55 +488,23 @@ fn take_end_line(
     Ok(true)
 }
 
-/// Takes the word of a part of a text.
-fn take_part(
-    alloc: Global,
-    stack: &mut Vec<Symbol>,
-    made: &mut Maker,
-    mode: Mode,
-    word: Word,
-) -> Result<bool, Memory>
-    ensures { IfOk result (λ b. MovesTo b (step_part mode (meant word)) (reverse stack.old.items) (reverse stack.new.items) (made_of made.old) (made_of made.new)) }
+/// Whether it is that number.
+fn is_number(number: u32, word: &Word) -> bool
+    ensures { result ≡ is_number number (meant word.now) }
 {
-    let Word::Name(name) = word else {
-        return Ok(false);
-    };
-    let Some(head) = head_of(mode, &name) else {
-        return Ok(false);
-    };
-    made.put(alloc, Note::Begin(head))?;
-    expect_head(stack, head)?;
-    Ok(true)
+    match word {
+        Word::Number(Some(n)) => *n == number,
+        _ => false,
+    }
 }
 
-/// Takes the word of the header.
-fn take_header(
-    alloc: Global,
-    stack: &mut Vec<Symbol>,
-    made: &mut Maker,
-    mode: Mode,
-    word: Word,
-) -> Result<bool, Memory>
-    ensures { IfOk result (λ b. MovesTo b (step_header mode (meant word)) (reverse stack.old.items) (reverse stack.new.items) (made_of made.old) (made_of made.new)) }
-{
-    let Word::Name(name) = word else {
-        return Ok(false);
-    };
-    let Some(Head::Header) = head_of(mode, &name) else {
-        return Ok(false);
-    };
-    made.put(alloc, Note::Begin(Head::Header))?;
-    expect_head(stack, Head::Header)?;
-    Ok(true)
-}
-
-/// Expects what stands behind the word of a part of a text.
-pub(crate) fn expect_head(stack: &mut Vec<Symbol>, head: Head) -> Result<(), Memory>
-    ensures { OnOk result (reverse stack.new.items ≡ expected head ++ reverse stack.old.items) }
+/// Expects what stands behind the word of a sentence, where the header has this number.
+pub(crate) fn expect_head(stack: &mut Vec<Symbol>, number: u32, head: Head) -> Result<(), Memory>
+    ensures { OnOk result (reverse stack.new.items ≡ expected number head ++ reverse stack.old.items) }
 {
     stack.push(Symbol::Part(Part::Fixed(Fixed::Semicolon)))?;
     match head {
-        Head::Header => stack.push(Symbol::One)?,
+        Head::Header => stack.push(Symbol::HeaderNumber(number))?,
         Head::Lemma => {
             stack.push(Symbol::Lines)?;
             stack.push(Symbol::Part(Part::Fixed(Fixed::OpenBrace)))?;

@@ -8,62 +8,63 @@ use Rattle.lt_script.proofs.Scripts.{next_other, next_byte, next_char, next_stop
 use Rattle.lt_script.specs.Views.{made_of}
 use Rattle.lt_script.proofs.Made.{never_none, next_made}
 use Rattle.lt_script.proofs.Directly.{next_part_made, as_each}
+use Rattle.lt_script.specs.Allowed.{form_of}
 use Rattle.lt_script.proofs.script.next_by_rows.Goals as goal
 
 pub read-requires : goal.read-requires
 read-requires c =
-    let n : SaysNext c.args.mode c.parts.lexer c.next_head.new.lexer (Begins c.in-Begins.head c.in-Begins.field-1) = rw c.in-Begins.is at c.in_ok-next_head.ensures.next in
-    c.parts.invariant.end ∙ sym (ap length (begun_source c.args.mode c.parts.lexer c.next_head.new.lexer c.in-Begins.head c.in-Begins.field-1 n))
+    let n : SaysNext (form_of c.args.opening.now c.args.allowed) c.parts.lexer c.next_head.new.lexer (Begins c.in-Begins.head c.in-Begins.field-1) = rw c.in-Begins.is at c.in_ok-next_head.ensures.next in
+    c.parts.invariant.end ∙ sym (ap length (begun_source (form_of c.args.opening.now c.args.allowed) c.parts.lexer c.next_head.new.lexer c.in-Begins.head c.in-Begins.field-1 n))
 
 pub unreachable-requires : goal.unreachable-requires
 unreachable-requires c =
-    let n : SaysNext c.args.mode c.parts.lexer c.next_head.new.lexer (Begins c.in-Begins.head c.in-Begins.field-1) = rw c.in-Begins.is at c.in_ok-next_head.ensures.next in
-    never_none c.args.mode c.args.lexer.now c.read.new.lexer c.in-Begins.head (reverse c.in-Ok.ensures.read.0) c.command.result
-    (next_part_made c.args.mode c.args.lexer.now c.parts.lexer c.next_head.new.lexer c.read.new.lexer c.in-Begins.head c.in-Begins.field-1 c.in-Ok.ensures.read.0 c.parts.invariant.past n c.in-Ok.ensures.read.1
+    let n : SaysNext (form_of c.args.opening.now c.args.allowed) c.parts.lexer c.next_head.new.lexer (Begins c.in-Begins.head c.in-Begins.field-1) = rw c.in-Begins.is at c.in_ok-next_head.ensures.next in
+    never_none (form_of c.args.opening.now c.args.allowed) c.args.lexer.now c.read.new.lexer c.in-Begins.head (reverse c.in-Ok.ensures.read.0) c.command.result
+    (next_part_made (form_of c.args.opening.now c.args.allowed) c.args.lexer.now c.parts.lexer c.next_head.new.lexer c.read.new.lexer c.in-Begins.head c.in-Begins.field-1 c.in-Ok.ensures.read.0 c.parts.invariant.past n c.in-Ok.ensures.read.1
     (sym c.is_header.ensures ∙ c.if-not-is_header.true)) (as_each c.in-Begins.head (made_of c.in-Ok.maker) c.in-Ok.ensures.read.0 c.command.result c.in-Ok.ensures.read.2 c.command.ensures) c.in_default.is
 
 pub returns-then-not-is_header-clause-command : goal.returns-then-not-is_header-clause-command
 returns-then-not-is_header-clause-command c =
-    let n : SaysNext c.args.mode c.parts.lexer c.next_head.new.lexer (Begins c.in-Begins.head c.in-Begins.field-1) = rw c.in-Begins.is at c.in_ok-next_head.ensures.next in
-    next_made c.args.mode c.args.lexer.now c.read.new.lexer c.in-Begins.head (reverse c.in-Ok.ensures.read.0) c.command.result c.in-Some.command
-    (next_part_made c.args.mode c.args.lexer.now c.parts.lexer c.next_head.new.lexer c.read.new.lexer c.in-Begins.head c.in-Begins.field-1 c.in-Ok.ensures.read.0 c.parts.invariant.past n c.in-Ok.ensures.read.1
+    let n : SaysNext (form_of c.args.opening.now c.args.allowed) c.parts.lexer c.next_head.new.lexer (Begins c.in-Begins.head c.in-Begins.field-1) = rw c.in-Begins.is at c.in_ok-next_head.ensures.next in
+    next_made (form_of c.args.opening.now c.args.allowed) c.args.lexer.now c.read.new.lexer c.in-Begins.head (reverse c.in-Ok.ensures.read.0) c.command.result c.in-Some.command
+    (next_part_made (form_of c.args.opening.now c.args.allowed) c.args.lexer.now c.parts.lexer c.next_head.new.lexer c.read.new.lexer c.in-Begins.head c.in-Begins.field-1 c.in-Ok.ensures.read.0 c.parts.invariant.past n c.in-Ok.ensures.read.1
     (sym c.is_header.ensures ∙ c.if-not-is_header.true)) (as_each c.in-Begins.head (made_of c.in-Ok.maker) c.in-Ok.ensures.read.0 c.command.result c.in-Ok.ensures.read.2 c.command.ensures) c.in-Some.is
 
 pub parts-smaller : goal.parts-smaller
 parts-smaller c =
-    let n : SaysNext c.args.mode c.parts.lexer c.next_head.new.lexer (Begins c.in-Begins.head c.in-Begins.field-1) = rw c.in-Begins.is at c.in_ok-next_head.ensures.next in
+    let n : SaysNext (form_of c.args.opening.now c.args.allowed) c.parts.lexer c.next_head.new.lexer (Begins c.in-Begins.head c.in-Begins.field-1) = rw c.in-Begins.is at c.in_ok-next_head.ensures.next in
     omega (
       arith,
-      begun_shorter c.args.mode c.parts.lexer c.next_head.new.lexer c.in-Begins.head c.in-Begins.field-1 n,
-      read_no_longer (expected c.in-Begins.head) (Begin c.in-Begins.head ∷ []) c.in-Ok.ensures.read.0 c.next_head.new.lexer c.read.new.lexer c.in-Ok.ensures.read.1,
+      begun_shorter (form_of c.args.opening.now c.args.allowed) c.parts.lexer c.next_head.new.lexer c.in-Begins.head c.in-Begins.field-1 n,
+      read_no_longer (expected c.args.opening.now.number c.in-Begins.head) (Begin c.in-Begins.head ∷ []) c.in-Ok.ensures.read.0 c.next_head.new.lexer c.read.new.lexer c.in-Ok.ensures.read.1,
     )
 
 pub parts-preserved : goal.parts-preserved
 parts-preserved c =
-    let n : SaysNext c.args.mode c.parts.lexer c.next_head.new.lexer (Begins c.in-Begins.head c.in-Begins.field-1) = rw c.in-Begins.is at c.in_ok-next_head.ensures.next in
+    let n : SaysNext (form_of c.args.opening.now c.args.allowed) c.parts.lexer c.next_head.new.lexer (Begins c.in-Begins.head c.in-Begins.field-1) = rw c.in-Begins.is at c.in_ok-next_head.ensures.next in
     record {
-      past = next_header c.args.mode c.args.lexer.now c.parts.lexer c.next_head.new.lexer c.read.new.lexer c.in-Begins.head c.in-Begins.field-1 c.in-Ok.ensures.read.0 c.parts.invariant.past n
+      past = next_header (form_of c.args.opening.now c.args.allowed) c.args.lexer.now c.parts.lexer c.next_head.new.lexer c.read.new.lexer c.in-Begins.head c.in-Begins.field-1 c.in-Ok.ensures.read.0 c.parts.invariant.past n
           c.in-Ok.ensures.read.1 (sym c.is_header.ensures ∙ c.if-not-is_header.false);
-      end = c.parts.invariant.end ∙ sym (ap length (read_source (expected c.in-Begins.head) (Begin c.in-Begins.head ∷ []) c.in-Ok.ensures.read.0 c.next_head.new.lexer c.read.new.lexer c.in-Ok.ensures.read.1
-          ∙ begun_source c.args.mode c.parts.lexer c.next_head.new.lexer c.in-Begins.head c.in-Begins.field-1 n));
+      end = c.parts.invariant.end ∙ sym (ap length (read_source (expected c.args.opening.now.number c.in-Begins.head) (Begin c.in-Begins.head ∷ []) c.in-Ok.ensures.read.0 c.next_head.new.lexer c.read.new.lexer c.in-Ok.ensures.read.1
+          ∙ begun_source (form_of c.args.opening.now c.args.allowed) c.parts.lexer c.next_head.new.lexer c.in-Begins.head c.in-Begins.field-1 n));
     }
 
 pub returns-in-Err-clause-wrong : goal.returns-in-Err-clause-wrong
 returns-in-Err-clause-wrong c =
-    let n : SaysNext c.args.mode c.parts.lexer c.next_head.new.lexer (Begins c.in-Begins.head c.in-Begins.field-1) = rw c.in-Begins.is at c.in_ok-next_head.ensures.next in
-    next_stopped c.args.mode c.args.lexer.now c.parts.lexer c.next_head.new.lexer c.in-Begins.head c.in-Begins.field-1 c.in-Err.error c.parts.invariant.past n c.in-Err.ensures.wrong
+    let n : SaysNext (form_of c.args.opening.now c.args.allowed) c.parts.lexer c.next_head.new.lexer (Begins c.in-Begins.head c.in-Begins.field-1) = rw c.in-Begins.is at c.in_ok-next_head.ensures.next in
+    next_stopped (form_of c.args.opening.now c.args.allowed) c.args.lexer.now c.parts.lexer c.next_head.new.lexer c.in-Begins.head c.in-Begins.field-1 c.in-Err.error c.parts.invariant.past n c.in-Err.ensures.wrong
 
 pub returns-in-Other-clause-wrong : goal.returns-in-Other-clause-wrong
 returns-in-Other-clause-wrong c =
-    let n : SaysNext c.args.mode c.parts.lexer c.next_head.new.lexer (Other c.in-Other.at) = rw c.in-Other.is at c.in_ok-next_head.ensures.next in
-    next_other c.args.mode c.args.lexer.now c.parts.lexer c.next_head.new.lexer c.in-Other.at c.parts.invariant.past n
+    let n : SaysNext (form_of c.args.opening.now c.args.allowed) c.parts.lexer c.next_head.new.lexer (Other c.in-Other.at) = rw c.in-Other.is at c.in_ok-next_head.ensures.next in
+    next_other (form_of c.args.opening.now c.args.allowed) c.args.lexer.now c.parts.lexer c.next_head.new.lexer c.in-Other.at c.parts.invariant.past n
 
 pub returns-in-BadByte-clause-wrong : goal.returns-in-BadByte-clause-wrong
 returns-in-BadByte-clause-wrong c =
-    let n : SaysNext c.args.mode c.parts.lexer c.next_head.new.lexer (NoByte c.in-BadByte.at) = rw c.in-BadByte.is at c.in_ok-next_head.ensures.next in
-    next_byte c.args.mode c.args.lexer.now c.parts.lexer c.next_head.new.lexer c.in-BadByte.at c.parts.invariant.past n
+    let n : SaysNext (form_of c.args.opening.now c.args.allowed) c.parts.lexer c.next_head.new.lexer (NoByte c.in-BadByte.at) = rw c.in-BadByte.is at c.in_ok-next_head.ensures.next in
+    next_byte (form_of c.args.opening.now c.args.allowed) c.args.lexer.now c.parts.lexer c.next_head.new.lexer c.in-BadByte.at c.parts.invariant.past n
 
 pub returns-in-BadChar-clause-wrong : goal.returns-in-BadChar-clause-wrong
 returns-in-BadChar-clause-wrong c =
-    let n : SaysNext c.args.mode c.parts.lexer c.next_head.new.lexer (NoChar c.in-BadChar.at) = rw c.in-BadChar.is at c.in_ok-next_head.ensures.next in
-    next_char c.args.mode c.args.lexer.now c.parts.lexer c.next_head.new.lexer c.in-BadChar.at c.parts.invariant.past n
+    let n : SaysNext (form_of c.args.opening.now c.args.allowed) c.parts.lexer c.next_head.new.lexer (NoChar c.in-BadChar.at) = rw c.in-BadChar.is at c.in_ok-next_head.ensures.next in
+    next_char (form_of c.args.opening.now c.args.allowed) c.args.lexer.now c.parts.lexer c.next_head.new.lexer c.in-BadChar.at c.parts.invariant.past n

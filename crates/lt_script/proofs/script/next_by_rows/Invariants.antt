@@ -1,9 +1,10 @@
 use Rattle.std.proofs.Common.{◌≡◌, length}
 use Rattle.lt_script.proofs.Parts.{Past}
+use Rattle.lt_script.specs.Allowed.{form_of}
 use Rattle.lt_script.proofs.script.next_by_rows.Given as goal
 
 abbrev pub invariant-parts : goal.invariant-parts
-invariant-parts l = record { past : Past l.fn.mode l.fn.lexer l.lexer; end : l.end ≡ length l.lexer.source }
+invariant-parts l = record { past : Past (form_of l.fn.opening l.fn.allowed) l.fn.lexer l.lexer; end : l.end ≡ length l.lexer.source }
 
 abbrev pub decreases-parts : goal.decreases-parts
 decreases-parts l = length l.lexer.ahead
