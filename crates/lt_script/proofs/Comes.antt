@@ -9,7 +9,7 @@ use Rattle.lt_texts.specs.Texts.{Left, lexed, after, after_by, past_gap, spellin
 use Rattle.lt_texts.specs.Lexemes.{Lexeme, lexeme, IsNextLexeme, Spans}
 use Rattle.lt_texts.proofs.TokenTexts.{token_shortens}
 use Rattle.lt_script.specs.declared.symbol.Symbol.{Symbol}
-use Rattle.lt_script.specs.declared.note.Note.{Note}
+use Rattle.lt_commands.specs.declared.note.Note.{Note}
 use Rattle.lt_script.specs.declared.read_error.ReadError.{ReadError}
 use Rattle.lt_script.specs.declared.read_error.ReadError.TheVariants.{BadHeader, BadCommand, Syntax, BadByte, BadChar, Memory}
 use Rattle.lt_script.specs.Machine.{Move, step_on, step_part, state, onward, run, Takes}

@@ -1,17 +1,17 @@
 -- The reader's steps where notes are put at once.
 use Rattle.std.proofs.Common.{◌≡◌, ℕ, ◌∙◌, ap, sym, refl, subst, Bool, true, false, List, [], ◌∷◌, ◌++◌, reverse, Option, Some, None, append-nil}
 use Rattle.lt_texts.specs.Lexemes.{Lexeme}
-use Rattle.lt_script.specs.declared.note.Note.{Note}
+use Rattle.lt_commands.specs.declared.note.Note.{Note}
 use Rattle.lt_script.specs.declared.symbol.Symbol.{Symbol}
 use Rattle.lt_script.specs.Machine.{Move, under, expected, semicolon, step, step_on, passed, Takes}
-use Rattle.lt_script.specs.Making.{Made, nothing, put, put_all, command_made}
+use Rattle.lt_commands.specs.Making.{Made, nothing, put, put_all, command_made}
 use Rattle.lt_script.proofs.Stacks.{reverse_snoc, under_under, over, one_symbol}
 use Rattle.std.proofs.lemmas.List.{reverse-reverse}
 use Rattle.std.specs.Option.{option_map}
 use Rattle.lt_texts.specs.Texts.{Left}
 use Rattle.lt_texts.specs.Forms.{Form}
 use Rattle.lt_grammar.specs.declared.words.Head.{Head}
-use Rattle.lt_script.specs.declared.note.Note.TheVariants.{Begin}
+use Rattle.lt_commands.specs.declared.note.Note.TheVariants.{Begin}
 use Rattle.lt_script.specs.declared.reading.Next.TheVariants.{Begins}
 use Rattle.std.specs.Prelude.{map}
 use Rattle.lt_grammar.specs.declared.words.Head.TheVariants.{Header, Lemma, Item, Command as Further}
@@ -21,9 +21,9 @@ use Rattle.lt_script.specs.Stops.{IsWaiting, Reads, SaysNext, NextNotes, is_head
 use Rattle.lt_script.proofs.Comes.{Came}
 use Rattle.lt_script.proofs.Parts.{Past}
 use Rattle.lt_script.proofs.Scripts.{next_part}
-use Rattle.lt_script.specs.declared.command.Command.{Command}
-use Rattle.lt_script.specs.Making.{put_each}
-use Rattle.lt_script.specs.Views.{command_of}
+use Rattle.lt_commands.specs.declared.command.Command.{Command}
+use Rattle.lt_commands.specs.Making.{put_each}
+use Rattle.lt_commands.specs.Views.{command_of}
 use Rattle.lt_script.proofs.Made.{each_all}
 use Rattle.lt_script.specs.Moves.{MovesTo, TakesTo, PassedTo, SettlesTo}
 

@@ -17,8 +17,8 @@ use Rattle.lt_grammar.specs.RowTexts.{PartText, header, item, lemma, command, te
 use Rattle.lt_grammar.specs.Words.{head_of}
 use Rattle.lt_texts.specs.Forms.{Form}
 use Rattle.lt_script.specs.declared.symbol.Symbol.{Symbol}
-use Rattle.lt_script.specs.declared.note.Note.{Note}
-use Rattle.lt_script.specs.declared.note.Note.TheVariants.{Begin as begin}
+use Rattle.lt_commands.specs.declared.note.Note.{Note}
+use Rattle.lt_commands.specs.declared.note.Note.TheVariants.{Begin as begin}
 use Rattle.lt_script.specs.declared.read_error.ReadError.{ReadError}
 use Rattle.lt_script.specs.declared.read_error.ReadError.TheVariants.{BadHeader, BadCommand, Syntax, BadByte, BadChar, Memory}
 use Rattle.lt_script.specs.Machine.{Move, step_on, step_part, part_move, State, state, onward, run, expected}

@@ -15,7 +15,7 @@ use Rattle.lt_grammar.proofs.Distinct.{found_has, head_found}
 use Rattle.lt_script.specs.declared.form.Allowed.{Allowed}
 use Rattle.lt_script.specs.declared.form.Allowed.TheVariants.{Items, All}
 use Rattle.lt_script.specs.declared.form.Opening.{Opening}
-use Rattle.lt_script.specs.Allowed.{allowed_words, word_of, form_of, stands_in, kept_in}
+use Rattle.lt_script.specs.Openings.{allowed_words, word_of, form_of, stands_in, kept_in}
 
 -- two tests of names
 name-bytes : (x y : Chars) → bytes_eq x y ≡ same_name x y

@@ -7,15 +7,15 @@ use Rattle.lt_texts.specs.Forms.{Form}
 use Rattle.lt_grammar.specs.declared.words.Head.{Head}
 use Rattle.lt_texts.specs.Commands as commands
 use Rattle.lt_grammar.specs.RowTexts.{PartText, header, item, lemma, command, commands_of}
-use Rattle.lt_script.specs.declared.note.Note.{Note}
-use Rattle.lt_script.specs.Making.{Made, nothing, put, put_all, command_made}
-use Rattle.lt_script.specs.Notes.{text_notes, head_of_text, meant_by}
+use Rattle.lt_commands.specs.declared.note.Note.{Note}
+use Rattle.lt_commands.specs.Making.{Made, nothing, put, put_all, command_made}
+use Rattle.lt_commands.specs.Notes.{text_notes, head_of_text, meant_by}
 use Rattle.lt_script.specs.Reading.{NextCommand}
 use Rattle.lt_script.specs.Stops.{NextNotes}
-use Rattle.lt_script.proofs.Makes.{text_makes}
-use Rattle.lt_script.specs.declared.command.Command.{Command}
-use Rattle.lt_script.specs.Views.{command_of}
-use Rattle.lt_script.specs.Making.{put_each}
+use Rattle.lt_commands.proofs.Makes.{text_makes}
+use Rattle.lt_commands.specs.declared.command.Command.{Command}
+use Rattle.lt_commands.specs.Views.{command_of}
+use Rattle.lt_commands.specs.Making.{put_each}
 
 each-append : (xs ys : List Note) (m : Made) → put_each (xs ++ ys) m ≡ put_each ys (put_each xs m)
 each-append [] ys m = refl

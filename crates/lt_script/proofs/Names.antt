@@ -13,19 +13,10 @@ use Rattle.lt_texts.specs.declared.lexical.TokenKind.{TokenKind}
 use Rattle.lt_texts.specs.declared.lexical.TokenKind.TheVariants as kinds
 use Rattle.lt_definitions.specs.Characters.{is_name, starts_name}
 use Rattle.lt_texts.specs.Spelling.{is_spelt, is_type_variable}
-use Rattle.lt_types.specs.Lexical.{name_goes_on, is_name as is_a_name}
-
-goes-on : (cs : List ℕ) → name_goes_on false cs ≡ list_all is_xid_continue cs
-goes-on [] = refl
-goes-on (c ∷ cs) = ap (λ (b : Bool). is_xid_continue c && b) (goes-on cs)
-
-same-name : (cs : List ℕ) → is_a_name cs ≡ is_name cs
-same-name [] = refl
-same-name (c ∷ cs) = ap (λ (b : Bool). starts_name c && b) (goes-on cs)
 
 -- what is spelt as a name is one
-pub spelt_name : (kind : TokenKind) (cs : List ℕ) → kind ≡ kinds.Name → is_spelt kind cs ≡ true → is_a_name cs ≡ true
-spelt_name kind cs e h = same-name cs ∙ ap (λ (k : TokenKind). is_spelt k cs) (sym e) ∙ h
+pub spelt_name : (kind : TokenKind) (cs : List ℕ) → kind ≡ kinds.Name → is_spelt kind cs ≡ true → is_name cs ≡ true
+spelt_name kind cs e h = ap (λ (k : TokenKind). is_spelt k cs) (sym e) ∙ h
 
 -- two texts with the same characters have the same bytes
 pub same_bytes : (xs ys : List ℕ) → IsUtf8 xs → IsUtf8 ys → chars xs ≡ chars ys → xs ≡ ys
@@ -45,5 +36,5 @@ word_same bs w u v a =
     (λ e. same_bytes bs w u v (d.0 e ∙ sym same), λ e. d.1 (ap chars e ∙ same))
 
 -- behind the quote of a type variable stands a name
-pub variable_name : (text rest : List ℕ) (q : ℕ) → text ≡ q ∷ rest → is_type_variable text ≡ true → is_a_name rest ≡ true
-variable_name text rest q e h = same-name rest ∙ (and_parts _ _ (ap is_type_variable (sym e) ∙ h)).1
+pub variable_name : (text rest : List ℕ) (q : ℕ) → text ≡ q ∷ rest → is_type_variable text ≡ true → is_name rest ≡ true
+variable_name text rest q e h = (and_parts _ _ (ap is_type_variable (sym e) ∙ h)).1

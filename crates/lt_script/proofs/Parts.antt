@@ -18,9 +18,9 @@ use Rattle.lt_script.specs.declared.symbol.Symbol.{Symbol}
 use Rattle.lt_script.specs.declared.symbol.Symbol.TheVariants.{Lines}
 use Rattle.lt_script.specs.declared.read_error.ReadError.{ReadError}
 use Rattle.lt_script.specs.declared.read_error.ReadError.TheVariants.{BadHeader, BadCommand, Syntax, BadByte, BadChar}
-use Rattle.lt_script.specs.declared.note.Note.{Note}
-use Rattle.lt_script.specs.declared.note.Note.TheVariants.{Begin as begin}
-use Rattle.lt_script.specs.Notes.{text_notes}
+use Rattle.lt_commands.specs.declared.note.Note.{Note}
+use Rattle.lt_commands.specs.declared.note.Note.TheVariants.{Begin as begin}
+use Rattle.lt_commands.specs.Notes.{text_notes}
 use Rattle.lt_script.specs.Machine.{Move, under, expected, part_move, header_move, step_part, step_header, or_pass, State, state, onward, run}
 use Rattle.lt_script.specs.Stops.{IsWaiting, Reads, StopsBy, Stops, StopsAt, call_of}
 use Rattle.lt_script.specs.Reading.{IsWhole, IsRest, IsViable, called, IsWrong, AreHeaders, FailsAt, HeaderFailsAt, NextText, AtEnd}

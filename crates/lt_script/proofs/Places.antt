@@ -9,9 +9,9 @@ use Rattle.lt_grammar.specs.Rows.{fixed, number}
 use Rattle.lt_grammar.specs.RowTexts.{PartText, header, text_lexemes, texts_lexemes, MayStand}
 use Rattle.lt_script.specs.declared.symbol.Symbol.{Symbol}
 use Rattle.lt_script.specs.declared.symbol.Symbol.TheVariants.{«Type», Constructor, MoreTypes, Term, Inside, Brackets, Arguments, MoreTerms, BoundName, FreeName, CloseFree, LambdaName, Body, CloseLambda, KeepType, KeepTerm, Part as APartOf, HeaderNumber, Lines, EndLine}
-use Rattle.lt_script.specs.declared.note.Note.{Note}
-use Rattle.lt_script.specs.declared.note.Note.TheVariants.{TypeAlone as type_alone, TypeOpen as type_open, TypeClose as type_close, KeepType as keep_type, Arguments as arguments, Bound as bound_name, FreeName as free_name, FreeClose as free_close, LambdaName as lambda_name, LambdaClose as lambda_close, Apply as apply, KeepTerm as keep_term, Label as label, Count as count, Variable as variable, KeepParameters as keep_parameters, EndLine as end_line, Begin as begin}
-use Rattle.lt_script.specs.Notes.{text_notes}
+use Rattle.lt_commands.specs.declared.note.Note.{Note}
+use Rattle.lt_commands.specs.declared.note.Note.TheVariants.{TypeAlone as type_alone, TypeOpen as type_open, TypeClose as type_close, KeepType as keep_type, Arguments as arguments, Bound as bound_name, FreeName as free_name, FreeClose as free_close, LambdaName as lambda_name, LambdaClose as lambda_close, Apply as apply, KeepTerm as keep_term, Label as label, Count as count, Variable as variable, KeepParameters as keep_parameters, EndLine as end_line, Begin as begin}
+use Rattle.lt_commands.specs.Notes.{text_notes}
 use Rattle.lt_script.specs.Machine.{Move, step_part, step_header, step_on, State, state, onward, run}
 use Rattle.lt_script.specs.Stops.{IsWaiting}
 use Rattle.lt_script.specs.Reading.{IsWhole, IsRest, IsViable, IsFront}

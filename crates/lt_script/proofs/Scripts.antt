@@ -14,14 +14,14 @@ use Rattle.lt_grammar.specs.declared.words.Head.TheVariants.{Header, Lemma, Item
 use Rattle.lt_grammar.specs.RowTexts.{PartText, header, item, lemma, command, text_lexemes, MayStand}
 use Rattle.lt_grammar.specs.Words.{head_of, head_word}
 use Rattle.lt_grammar.proofs.Distinct.{IsHead, head_found}
-use Rattle.lt_script.specs.declared.note.Note.{Note}
-use Rattle.lt_script.specs.declared.note.Note.TheVariants.{Begin}
+use Rattle.lt_commands.specs.declared.note.Note.{Note}
+use Rattle.lt_commands.specs.declared.note.Note.TheVariants.{Begin}
 use Rattle.lt_script.specs.declared.symbol.Symbol.{Symbol}
 use Rattle.lt_script.specs.declared.read_error.ReadError.{ReadError}
 use Rattle.lt_script.specs.declared.read_error.ReadError.TheVariants.{BadHeader, BadCommand, Syntax, BadByte, BadChar, Memory}
 use Rattle.lt_script.specs.declared.reading.Next.TheVariants.{End as Ends, Begins, Other, BadByte as NoByte, BadChar as NoChar}
 use Rattle.lt_script.specs.Machine.{expected, step_header, step_part, header_move, part_move}
-use Rattle.lt_script.specs.Notes.{head_of_text}
+use Rattle.lt_commands.specs.Notes.{head_of_text}
 use Rattle.lt_script.specs.Reading.{FailsAt, HeaderFailsAt, Fails, HeaderFails, AtEnd}
 use Rattle.lt_script.specs.Stops.{Reads, StopsAt, IsStopped, SaysNext, NextNotes, call_of, is_header}
 use Rattle.lt_script.proofs.Comes.{spans_source, spans_no_longer, after_source}

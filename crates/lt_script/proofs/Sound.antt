@@ -25,8 +25,8 @@ use Rattle.lt_grammar.specs.Words.{find_word, all_rules, rule_of, rule_word, hea
 use Rattle.lt_grammar.proofs.Distinct.{IsHead, found_has, found_head}
 use Rattle.lt_script.specs.declared.symbol.Symbol.{Symbol}
 use Rattle.lt_script.specs.declared.symbol.Symbol.TheVariants.{«Type», Constructor, MoreTypes, Term, Inside, Brackets, Arguments, MoreTerms, BoundName, FreeName, CloseFree, LambdaName, Body, CloseLambda, KeepType, KeepTerm, Part as APartOf, HeaderNumber, Lines, EndLine}
-use Rattle.lt_script.specs.declared.note.Note.{Note}
-use Rattle.lt_script.specs.declared.note.Note.TheVariants.{Begin as begin}
+use Rattle.lt_commands.specs.declared.note.Note.{Note}
+use Rattle.lt_commands.specs.declared.note.Note.TheVariants.{Begin as begin}
 use Rattle.lt_script.proofs.Taken.{first_run}
 use Rattle.lt_script.specs.Machine.{Move, go, under, step_type, step_constructor, step_more_types, step_term, step_inside, step_brackets, step_arguments, step_bound_name, step_free_name, step_close_free, step_lambda_name, step_close_lambda, step_label, step_number, step_variable, step_parameters, is_fixed, step_part_of, step_header_number, semicolon, line_move, step_lines, step_end_line, expected, part_move, step_part, header_move, step_header, step, pass, or_pass, step_on, State, onward, run}
 

@@ -6,7 +6,7 @@ use Rattle.std.proofs.lemmas.List.{reverse-append}
 use Rattle.lt_texts.specs.declared.lexical.TokenKind.TheVariants as kinds
 use Rattle.lt_texts.specs.Lexemes.{Lexeme, a_sign}
 use Rattle.lt_grammar.specs.declared.words.Part.{Part}
-use Rattle.lt_script.specs.declared.note.Note.{Note}
+use Rattle.lt_commands.specs.declared.note.Note.{Note}
 use Rattle.lt_script.specs.declared.symbol.Symbol.{Symbol}
 use Rattle.lt_script.specs.declared.symbol.Symbol.TheVariants.{Brackets, KeepType, KeepTerm, Part as APartOf}
 use Rattle.lt_script.specs.Machine.{Move, go, under, step, passed, or_pass, step_on, Takes, Moves, Passed, Settles}

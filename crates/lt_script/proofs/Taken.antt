@@ -22,9 +22,9 @@ use Rattle.lt_grammar.proofs.Distinct.{rule_found, head_found, IsHead}
 use Rattle.lt_grammar.proofs.OneWay.{IsClear, term_clear, terms_clear, parts_clear}
 use Rattle.lt_script.specs.declared.symbol.Symbol.{Symbol}
 use Rattle.lt_script.specs.declared.symbol.Symbol.TheVariants.{«Type», MoreTypes, Term, Inside, Brackets, Arguments, MoreTerms, CloseFree, Body, CloseLambda, KeepType, KeepTerm, Part as APartOf, Lines, EndLine, HeaderNumber}
-use Rattle.lt_script.specs.declared.note.Note.{Note}
-use Rattle.lt_script.specs.declared.note.Note.TheVariants.{TypeOpen as type_open, TypeClose as type_close, KeepType as keep_type, ConstantName as constant_name, NoArguments as no_arguments, Arguments as arguments, FreeName as free_name, LambdaName as lambda_name, Apply as apply, KeepTerm as keep_term, Parameter as parameter, BeginLine as begin_line, EndLine as end_line, Begin as begin}
-use Rattle.lt_script.specs.Notes.{type_notes, types_notes, later_notes, arguments_notes, term_notes, terms_notes, parameters_notes, part_notes, parts_notes, lines_notes, text_notes}
+use Rattle.lt_commands.specs.declared.note.Note.{Note}
+use Rattle.lt_commands.specs.declared.note.Note.TheVariants.{TypeOpen as type_open, TypeClose as type_close, KeepType as keep_type, ConstantName as constant_name, NoArguments as no_arguments, Arguments as arguments, FreeName as free_name, LambdaName as lambda_name, Apply as apply, KeepTerm as keep_term, Parameter as parameter, BeginLine as begin_line, EndLine as end_line, Begin as begin}
+use Rattle.lt_commands.specs.Notes.{type_notes, types_notes, later_notes, arguments_notes, term_notes, terms_notes, parameters_notes, part_notes, parts_notes, lines_notes, text_notes}
 use Rattle.lt_script.specs.Machine.{Move, go, under, semicolon, line_move, expected, part_move, step_part, header_move, step_header, or_pass, step_on, State, state, onward, run}
 
 -- ---- what is passed over

@@ -14,10 +14,10 @@ use Rattle.lt_grammar.specs.Table.{rule_row, item_row, lemma_parts, command_row}
 use Rattle.lt_grammar.specs.Words.{rule_of, head_of}
 use Rattle.lt_script.specs.declared.symbol.Symbol.{Symbol}
 use Rattle.lt_script.specs.declared.symbol.Symbol.TheVariants.{«Type», Constructor, MoreTypes, Term, Inside, Brackets, Arguments, MoreTerms, BoundName, FreeName, CloseFree, LambdaName, Body, CloseLambda, KeepType, KeepTerm, Part as APartOf, HeaderNumber, Lines, EndLine}
-use Rattle.lt_script.specs.declared.note.Note.{Note}
+use Rattle.lt_commands.specs.declared.note.Note.{Note}
 use Rattle.lt_script.specs.declared.word.Word.{Word}
 use Rattle.lt_script.specs.declared.word.Word.TheVariants.{Name, Variable as VariableWord, Number as NumberWord, Sign}
-use Rattle.lt_script.specs.declared.note.Note.TheVariants.{TypeVar as type_var, TypeAlone as type_alone, TypeOpen as type_open, TypeClose as type_close, KeepType as keep_type, ConstantName as constant_name, NoArguments as no_arguments, Arguments as arguments, Bound as bound_name, FreeName as free_name, FreeClose as free_close, LambdaName as lambda_name, LambdaClose as lambda_close, Apply as apply, KeepTerm as keep_term, Label as label, Count as count, Variable as variable, Parameter as parameter, KeepParameters as keep_parameters, BeginLine as begin_line, EndLine as end_line, Begin as begin}
+use Rattle.lt_commands.specs.declared.note.Note.TheVariants.{TypeVar as type_var, TypeAlone as type_alone, TypeOpen as type_open, TypeClose as type_close, KeepType as keep_type, ConstantName as constant_name, NoArguments as no_arguments, Arguments as arguments, Bound as bound_name, FreeName as free_name, FreeClose as free_close, LambdaName as lambda_name, LambdaClose as lambda_close, Apply as apply, KeepTerm as keep_term, Label as label, Count as count, Variable as variable, Parameter as parameter, KeepParameters as keep_parameters, BeginLine as begin_line, EndLine as end_line, Begin as begin}
 
 -- what is expected in place of a symbol, and what is noted
 pub record Move : Type 0 where

@@ -1,10 +1,10 @@
 -- What a call that takes a word makes of the stack and of the maker.
 use Rattle.std.specs.Prelude.{◌≡◌, Bool, true, false, List, [], ◌∷◌, ◌++◌, Option, Some, None}
 use Rattle.lt_texts.specs.Lexemes.{Lexeme}
-use Rattle.lt_script.specs.declared.note.Note.{Note}
+use Rattle.lt_commands.specs.declared.note.Note.{Note}
 use Rattle.lt_script.specs.declared.symbol.Symbol.{Symbol}
 use Rattle.lt_script.specs.Machine.{Move, under, step_on, passed}
-use Rattle.lt_script.specs.Making.{Made, put_all}
+use Rattle.lt_commands.specs.Making.{Made, put_all}
 
 abbrev pub MovesTo : Bool → Option Move → List Symbol → List Symbol → Made → Made → Type 0
 MovesTo true (Some k) stack stack' m m' = (stack' ≡ k.pushed ++ stack) × (m' ≡ put_all k.made m)

@@ -14,11 +14,11 @@ use Rattle.lt_grammar.specs.Words.{head_of}
 use Rattle.lt_script.specs.declared.symbol.Symbol.{Symbol}
 use Rattle.lt_script.specs.declared.read_error.ReadError.{ReadError}
 use Rattle.lt_script.specs.declared.read_error.ReadError.TheVariants.{BadHeader, Syntax, BadByte, BadChar, Memory}
-use Rattle.lt_script.specs.declared.note.Note.{Note}
+use Rattle.lt_commands.specs.declared.note.Note.{Note}
 use Rattle.lt_script.specs.declared.reading.Next.{Next}
 use Rattle.lt_script.specs.declared.reading.Next.TheVariants.{End as Ends, Begins, Other, BadByte as NoByte, BadChar as NoChar}
 use Rattle.lt_script.specs.Machine.{State, state, step_part, run}
-use Rattle.lt_script.specs.Notes.{text_notes, head_of_text}
+use Rattle.lt_commands.specs.Notes.{text_notes, head_of_text}
 use Rattle.lt_script.specs.Reading.{NextText}
 
 -- something is expected

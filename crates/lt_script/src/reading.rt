@@ -3,8 +3,8 @@ ghost use Rattle.std.specs.Prelude.{◌≡◌, ◌<◌, [], ◌∷◌, IfOk, IfE
 ghost use Rattle.lt_texts.specs.Lexemes.{lexeme};
 ghost use Rattle.lt_texts.specs.Slices.{IsSlice, bytes_of};
 ghost use Rattle.lt_texts.specs.Spelling.{is_spelt, is_type_variable};
-ghost use Rattle.lt_script.specs.declared.note.Note.TheVariants as notes;
-ghost use Rattle.lt_script.specs.Allowed.{form_of};
+ghost use Rattle.lt_commands.specs.declared.note.Note.TheVariants as notes;
+ghost use Rattle.lt_script.specs.Openings.{form_of};
 ghost use Rattle.lt_script.specs.Machine.{meant};
 ghost use Rattle.lt_script.specs.Stops.{Reads, IsStopped, SaysNext, Heads, call_of};
 

@@ -1,19 +1,19 @@
 //! Reads commands without a row of notes between.
 ghost use Rattle.std.specs.Prelude.{◌≡◌, List, [], ◌∷◌, length, IfOk, IfErr, MatchOption};
-ghost use Rattle.lt_script.specs.declared.note.Note.{Note};
-ghost use Rattle.lt_script.specs.declared.note.Note.TheVariants.{Begin};
+ghost use Rattle.lt_commands.specs.declared.note.Note.{Note};
+ghost use Rattle.lt_commands.specs.declared.note.Note.TheVariants.{Begin};
 ghost use Rattle.lt_script.specs.Machine.{expected};
-ghost use Rattle.lt_script.specs.Making.{nothing, put_all};
-ghost use Rattle.lt_script.specs.Allowed.{form_of};
+ghost use Rattle.lt_commands.specs.Making.{nothing, put_all};
+ghost use Rattle.lt_script.specs.Openings.{form_of};
 ghost use Rattle.lt_script.specs.Promises.{Refuses};
 ghost use Rattle.lt_script.specs.Reading as rows;
 ghost use Rattle.lt_texts.specs.WrongPlaces.{AtEnd, NextCommand};
 ghost use Rattle.lt_script.specs.Stops.{Reads, IsStopped, call_of, is_header};
-ghost use Rattle.lt_script.specs.Views.{made_of, command_of};
+ghost use Rattle.lt_commands.specs.Views.{made_of, command_of};
 
-use crate::command::Command;
+use lt_commands::Command;
 use crate::taking::{expect_head, take};
-use crate::maker::Maker;
+use lt_commands::Maker;
 use lt_texts::lexical::Lexed;
 use lt_grammar::words::{Head};
 use crate::form::{Allowed, Opening};

@@ -3,14 +3,14 @@ ghost use Rattle.std.specs.Prelude.{◌≡◌, ◌++◌, [], ◌∷◌, Option, 
 ghost use Rattle.lt_grammar.specs.declared.words.Part.TheVariants as parts;
 ghost use Rattle.lt_script.specs.declared.symbol.Symbol.TheVariants as symbols;
 ghost use Rattle.lt_script.specs.Machine.{meant, passed, is_fixed, is_number, step, step_on, step_type, step_constructor, step_more_types, step_term, step_inside, step_brackets, step_arguments, step_bound_name, step_free_name, step_close_free, step_lambda_name, step_close_lambda, step_label, step_number, step_variable, step_parameters, step_part_of, step_lines, step_end_line, expected};
-ghost use Rattle.lt_script.specs.Making.{nothing};
+ghost use Rattle.lt_commands.specs.Making.{nothing};
 ghost use Rattle.lt_script.specs.Moves.{MovesTo, TakesTo, SettlesTo};
-ghost use Rattle.lt_script.specs.Views.{made_of};
+ghost use Rattle.lt_commands.specs.Views.{made_of};
 
-use crate::maker::Maker;
+use lt_commands::Maker;
 use lt_texts::lexical::TokenKind;
 use lt_grammar::words::{Fixed, Head, Part, RuleWord};
-use crate::note::Note;
+use lt_commands::Note;
 use crate::symbol::Symbol;
 use crate::table::{command_parts, is_word, item_parts, lemma_parts, rule_of, rule_parts};
 use crate::word::Word;

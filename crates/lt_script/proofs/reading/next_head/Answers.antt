@@ -3,7 +3,7 @@ use Rattle.std.proofs.Common.{◌∙◌, ap}
 use Rattle.lt_texts.specs.Lexemes.{lexeme}
 use Rattle.lt_script.specs.Machine.{meant}
 use Rattle.lt_script.proofs.Comes.{says_next}
-use Rattle.lt_script.specs.Allowed.{form_of}
+use Rattle.lt_script.specs.Openings.{form_of}
 use Rattle.lt_script.proofs.reading.next_head.Goals as goal
 
 pub returns : goal.returns

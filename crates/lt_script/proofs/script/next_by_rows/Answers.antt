@@ -1,14 +1,14 @@
 -- Headers are passed over; then a command, the end or a wrong place.
 use Rattle.std.proofs.Common.{◌∙◌, ap, sym, [], ◌∷◌, length, reverse, arith}
-use Rattle.lt_script.specs.declared.note.Note.TheVariants.{Begin}
+use Rattle.lt_commands.specs.declared.note.Note.TheVariants.{Begin}
 use Rattle.lt_script.specs.declared.reading.Next.TheVariants.{Begins, Other, BadByte as NoByte, BadChar as NoChar}
 use Rattle.lt_script.specs.Machine.{expected}
 use Rattle.lt_script.specs.Stops.{SaysNext}
 use Rattle.lt_script.proofs.Scripts.{next_other, next_byte, next_char, next_stopped, next_header, begun_source, begun_shorter, read_source, read_no_longer}
-use Rattle.lt_script.specs.Views.{made_of}
+use Rattle.lt_commands.specs.Views.{made_of}
 use Rattle.lt_script.proofs.Made.{never_none, next_made}
 use Rattle.lt_script.proofs.Directly.{next_part_made, as_each}
-use Rattle.lt_script.specs.Allowed.{form_of}
+use Rattle.lt_script.specs.Openings.{form_of}
 use Rattle.lt_script.proofs.script.next_by_rows.Goals as goal
 
 pub read-requires : goal.read-requires

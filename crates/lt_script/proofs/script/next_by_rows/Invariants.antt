@@ -1,6 +1,6 @@
 use Rattle.std.proofs.Common.{◌≡◌, length}
 use Rattle.lt_script.proofs.Parts.{Past}
-use Rattle.lt_script.specs.Allowed.{form_of}
+use Rattle.lt_script.specs.Openings.{form_of}
 use Rattle.lt_script.proofs.script.next_by_rows.Given as goal
 
 abbrev pub invariant-parts : goal.invariant-parts

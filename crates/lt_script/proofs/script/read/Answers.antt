@@ -3,12 +3,12 @@ use Rattle.std.specs.Prelude.{vec_len}
 use Rattle.std.proofs.lemmas.Bool.{eqb-true}
 use Rattle.std.proofs.lemmas.List.{length-reverse}
 use Rattle.lt_texts.specs.Lexemes.{lexeme}
-use Rattle.lt_script.specs.declared.note.Note.TheVariants.{Begin}
+use Rattle.lt_commands.specs.declared.note.Note.TheVariants.{Begin}
 use Rattle.lt_script.specs.Machine.{meant, expected, step_on}
 use Rattle.lt_script.specs.Stops.{call_of}
 use Rattle.lt_script.proofs.Comes.{Comes, came_first, comes_on, came_on, came_to, stops_at_token, stops_at_end, is_some}
 use Rattle.lt_script.specs.declared.symbol.Symbol.{Symbol}
-use Rattle.lt_script.specs.Views.{made_of}
+use Rattle.lt_commands.specs.Views.{made_of}
 use Rattle.lt_script.proofs.Directly.{noted, expected_waits}
 use Rattle.lt_script.proofs.script.read.Goals as goal
 

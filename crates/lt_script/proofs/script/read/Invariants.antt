@@ -1,7 +1,7 @@
 use Rattle.std.proofs.Common.{length, reverse, [], ◌∷◌}
-use Rattle.lt_script.specs.declared.note.Note.TheVariants.{Begin}
+use Rattle.lt_commands.specs.declared.note.Note.TheVariants.{Begin}
 use Rattle.lt_script.specs.Machine.{expected}
-use Rattle.lt_script.specs.Views.{made_of}
+use Rattle.lt_commands.specs.Views.{made_of}
 use Rattle.lt_script.proofs.Directly.{CameTo}
 use Rattle.lt_script.proofs.script.read.Given as goal
 

@@ -3,8 +3,8 @@ use Rattle.std.specs.Prelude.{MatchOption}
 use Rattle.std.proofs.Common.{Option, Some, None}
 use Rattle.lt_script.proofs.Scripts.{if_ok, if_err}
 use Rattle.lt_script.proofs.ToPieces.{next_command, at_end, refuses}
-use Rattle.lt_script.specs.Views.{command_of}
-use Rattle.lt_script.specs.Allowed.{form_of}
+use Rattle.lt_commands.specs.Views.{command_of}
+use Rattle.lt_script.specs.Openings.{form_of}
 use Rattle.lt_script.proofs.script.read_command.Goals as goal
 
 matched : {X : Type 0} (o : Option X) (A B : Type 0) (P Q : X → Type 0) → (A → B) → ((x : X) → P x → Q x) → MatchOption o A P → MatchOption o B Q

@@ -13,10 +13,10 @@ use Rattle.lt_texts.specs.Writing as writing
 use Rattle.lt_grammar.specs.Rows.{Text, Texts, From, FromAll, given, given_all, Row}
 use Rattle.lt_grammar.specs.Table.{rule_row, item_row, lemma_parts, command_row}
 use Rattle.lt_grammar.specs.RowTexts.{row_meaning, LineText, line, rule_of_text, PartText, header, item, lemma, command}
-use Rattle.lt_script.specs.declared.note.Note.{Note}
-use Rattle.lt_script.specs.declared.note.Note.TheVariants.{TypeOpen, TypeClose, KeepType, ConstantName, Arguments, FreeName, FreeClose, LambdaName, LambdaClose, Apply, KeepTerm, Parameter, KeepParameters, BeginLine, EndLine, Begin}
-use Rattle.lt_script.specs.Notes.{type_notes, types_notes, later_notes, arguments_notes, term_notes, terms_notes, parameters_notes, part_notes, parts_notes, lines_notes, text_notes, head_of_text, meant_by}
-use Rattle.lt_script.specs.Making.{Made, nothing, closed, keep_type, keep_term, Meaning, Meanings, applied, applied_all, both, pop, pops, applied_if, make_row, with_line, put, put_all, as_item, command_made}
+use Rattle.lt_commands.specs.declared.note.Note.{Note}
+use Rattle.lt_commands.specs.declared.note.Note.TheVariants.{TypeOpen, TypeClose, KeepType, ConstantName, Arguments, FreeName, FreeClose, LambdaName, LambdaClose, Apply, KeepTerm, Parameter, KeepParameters, BeginLine, EndLine, Begin}
+use Rattle.lt_commands.specs.Notes.{type_notes, types_notes, later_notes, arguments_notes, term_notes, terms_notes, parameters_notes, part_notes, parts_notes, lines_notes, text_notes, head_of_text, meant_by}
+use Rattle.lt_commands.specs.Making.{Made, nothing, closed, keep_type, keep_term, Meaning, Meanings, applied, applied_all, both, pop, pops, applied_if, make_row, with_line, put, put_all, as_item, command_made}
 
 -- ---- types
 

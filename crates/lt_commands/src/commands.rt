@@ -4,8 +4,8 @@ ghost use Rattle.lt_grammar.specs.declared.words.ItemWord.TheVariants as items;
 ghost use Rattle.lt_grammar.specs.declared.words.CommandWord.TheVariants as words;
 ghost use Rattle.lt_grammar.specs.declared.words.Head.TheVariants as heads;
 ghost use Rattle.lt_grammar.specs.Table.{item_row, command_row};
-ghost use Rattle.lt_script.specs.Making.{make_row, as_item, command_made};
-ghost use Rattle.lt_script.specs.Views.{made_of, command_of};
+ghost use Rattle.lt_commands.specs.Making.{make_row, as_item, command_made};
+ghost use Rattle.lt_commands.specs.Views.{made_of, command_of};
 
 use crate::command::Command;
 use crate::maker::Maker;
@@ -257,7 +257,7 @@ impl Maker {
     }
 
     /// The command that begins so.
-    pub(crate) fn command(self, head: Head) -> Option<Command>
+    pub fn command(self, head: Head) -> Option<Command>
         ensures { option_map command_of result ≡ command_made head (made_of self) }
     {
         let mut maker = self;

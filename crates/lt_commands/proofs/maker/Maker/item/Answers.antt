@@ -1,9 +1,9 @@
 use Rattle.std.proofs.Common.{◌∙◌, ap, sym}
 use Rattle.lt_grammar.specs.declared.words.ItemWord.{ItemWord}
 use Rattle.lt_grammar.specs.Table.{item_row}
-use Rattle.lt_script.specs.Making.{make_row, as_item}
-use Rattle.lt_script.specs.Views.{made_of}
-use Rattle.lt_script.proofs.maker.Maker.item.Goals as goal
+use Rattle.lt_commands.specs.Making.{make_row, as_item}
+use Rattle.lt_commands.specs.Views.{made_of}
+use Rattle.lt_commands.proofs.maker.Maker.item.Goals as goal
 
 pub returns-in-TypeItem : goal.returns-in-TypeItem
 returns-in-TypeItem c = c.type_decl.ensures ∙ ap (λ (w : ItemWord). as_item (make_row (item_row w) (made_of c.args.self.now)).0) (sym c.in-TypeItem.is)

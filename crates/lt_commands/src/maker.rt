@@ -1,8 +1,8 @@
 //! What is being made.
 ghost use Rattle.std.specs.Prelude.{◌≡◌, OnOk};
-ghost use Rattle.lt_script.specs.declared.note.Note.TheVariants as notes;
-ghost use Rattle.lt_script.specs.Making.{nothing, put};
-ghost use Rattle.lt_script.specs.Views.{made_of};
+ghost use Rattle.lt_commands.specs.declared.note.Note.TheVariants as notes;
+ghost use Rattle.lt_commands.specs.Making.{nothing, put};
+ghost use Rattle.lt_commands.specs.Views.{made_of};
 
 use crate::command::RuleLine;
 use lt_grammar::words::RuleWord;
@@ -14,24 +14,24 @@ use std::mem;
 
 /// What is being made.
 #[derive(Drop)]
-pub(crate) struct Maker {
-    pub(crate) forming: TyBuilder,
-    pub(crate) pending: Vec<(Name, usize)>,
-    pub(crate) types: Vec<Ty>,
-    pub(crate) heads: Vec<(Name, List<Ty>)>,
-    pub(crate) binders: Vec<Name>,
-    pub(crate) terms: TermBuilder,
-    pub(crate) wholes: Vec<Term>,
-    pub(crate) labels: Vec<Name>,
-    pub(crate) numbers: Vec<u32>,
-    pub(crate) params: Vec<Name>,
-    pub(crate) names: Vec<List<Name>>,
-    pub(crate) lines: Vec<RuleLine>,
+pub struct Maker {
+    pub forming: TyBuilder,
+    pub pending: Vec<(Name, usize)>,
+    pub types: Vec<Ty>,
+    pub heads: Vec<(Name, List<Ty>)>,
+    pub binders: Vec<Name>,
+    pub terms: TermBuilder,
+    pub wholes: Vec<Term>,
+    pub labels: Vec<Name>,
+    pub numbers: Vec<u32>,
+    pub params: Vec<Name>,
+    pub names: Vec<List<Name>>,
+    pub lines: Vec<RuleLine>,
 }
 
 impl Maker {
     /// Nothing is made yet.
-    pub(crate) fn new(alloc: Global) -> Maker
+    pub fn new(alloc: Global) -> Maker
         ensures { made_of result ≡ nothing }
     {
         Maker {
@@ -239,7 +239,7 @@ impl Maker {
     }
 
     /// What a note makes.
-    pub(crate) fn put(&mut self, alloc: Global, note: Note) -> Result<(), Memory>
+    pub fn put(&mut self, alloc: Global, note: Note) -> Result<(), Memory>
         ensures { OnOk result (made_of self.new ≡ put note (made_of self.old)) }
     {
         match note {

@@ -1,9 +1,9 @@
 use Rattle.std.proofs.Common.{◌∙◌, ap, sym}
 use Rattle.lt_grammar.specs.declared.words.CommandWord.{CommandWord}
 use Rattle.lt_grammar.specs.Table.{command_row}
-use Rattle.lt_script.specs.Making.{make_row}
-use Rattle.lt_script.specs.Views.{made_of}
-use Rattle.lt_script.proofs.maker.Maker.further.Goals as goal
+use Rattle.lt_commands.specs.Making.{make_row}
+use Rattle.lt_commands.specs.Views.{made_of}
+use Rattle.lt_commands.proofs.maker.Maker.further.Goals as goal
 
 pub returns-in-Law : goal.returns-in-Law
 returns-in-Law c = c.law.ensures ∙ ap (λ (w : CommandWord). (make_row (command_row w) (made_of c.args.self.now)).0) (sym c.in-Law.is)

@@ -1,9 +1,9 @@
 use Rattle.std.proofs.Common.{◌∙◌, ap, sym}
 use Rattle.lt_grammar.specs.declared.words.RuleWord.{RuleWord}
 use Rattle.lt_grammar.specs.Table.{rule_row}
-use Rattle.lt_script.specs.Making.{make_row}
-use Rattle.lt_script.specs.Views.{made_of}
-use Rattle.lt_script.proofs.maker.Maker.line.Goals as goal
+use Rattle.lt_commands.specs.Making.{make_row}
+use Rattle.lt_commands.specs.Views.{made_of}
+use Rattle.lt_commands.proofs.maker.Maker.line.Goals as goal
 
 pub returns-in-Assume-clause-line : goal.returns-in-Assume-clause-line
 returns-in-Assume-clause-line c = c.assume_line.ensures.line ∙ ap (λ (w : RuleWord). (make_row (rule_row w) (made_of c.args.self.now)).0) (sym c.in-Assume.is)

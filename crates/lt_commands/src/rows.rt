@@ -3,8 +3,8 @@ ghost use Rattle.std.specs.Prelude.{◌≡◌, Option, option_map};
 ghost use Rattle.lt_grammar.specs.declared.words.Part.TheVariants as parts;
 ghost use Rattle.lt_grammar.specs.declared.words.RuleWord.TheVariants as words;
 ghost use Rattle.lt_grammar.specs.Table.{rule_row};
-ghost use Rattle.lt_script.specs.Making.{pop, make_row, as_item, command_made};
-ghost use Rattle.lt_script.specs.Views.{made_of, rule_of, command_of};
+ghost use Rattle.lt_commands.specs.Making.{pop, make_row, as_item, command_made};
+ghost use Rattle.lt_commands.specs.Views.{made_of, rule_of, command_of};
 
 use crate::command::{Command, RuleLine};
 use crate::maker::Maker;

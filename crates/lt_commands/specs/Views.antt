@@ -1,15 +1,15 @@
 -- What a maker has made, as trees.
 use Rattle.std.specs.Prelude.{reverse, map}
-use Rattle.lt_script.specs.declared.maker.Maker.{Maker}
-use Rattle.lt_script.specs.Making.{Made}
+use Rattle.lt_commands.specs.declared.maker.Maker.{Maker}
+use Rattle.lt_commands.specs.Making.{Made}
 use Rattle.lt_definitions.specs.Terms.{TermTree}
 use Rattle.lt_definitions.specs.Rules as rules
 use Rattle.lt_definitions.specs.Items as items
 use Rattle.lt_texts.specs.Commands as commands
-use Rattle.lt_script.specs.declared.command.RuleLine.{RuleLine}
-use Rattle.lt_script.specs.declared.command.RuleLine.TheVariants.{Assume, Weaken, Refl, Sym, Trans, Cong, Abs, Beta, Eta, Eqmp, ImpI, Mp, AllI, AllE, Iff, Inst, Tinst, Select, Ccontr, Thm}
-use Rattle.lt_script.specs.declared.command.Command.{Command}
-use Rattle.lt_script.specs.declared.command.Command.TheVariants.{TypeDecl, ConstDecl, Axiom, Def, Typedef, Lemma, Law, Corr, Relator, Property, Domain, Rule as RuleCommand, Lifting, LiftingTypedef, QuotientType, Lift, Parametric, ParamRule, Equiv, Implies, Carry, AbsEq, RepEq}
+use Rattle.lt_commands.specs.declared.command.RuleLine.{RuleLine}
+use Rattle.lt_commands.specs.declared.command.RuleLine.TheVariants.{Assume, Weaken, Refl, Sym, Trans, Cong, Abs, Beta, Eta, Eqmp, ImpI, Mp, AllI, AllE, Iff, Inst, Tinst, Select, Ccontr, Thm}
+use Rattle.lt_commands.specs.declared.command.Command.{Command}
+use Rattle.lt_commands.specs.declared.command.Command.TheVariants.{TypeDecl, ConstDecl, Axiom, Def, Typedef, Lemma, Law, Corr, Relator, Property, Domain, Rule as RuleCommand, Lifting, LiftingTypedef, QuotientType, Lift, Parametric, ParamRule, Equiv, Implies, Carry, AbsEq, RepEq}
 
 -- a line as a rule
 abbrev pub rule_of : RuleLine → rules.Rule TermTree
