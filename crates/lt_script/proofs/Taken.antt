@@ -16,7 +16,7 @@ use Rattle.lt_grammar.specs.declared.words.Head.TheVariants.{Header, Lemma, Item
 use Rattle.lt_texts.specs.Writing.{type_lexemes, types_lexemes, arguments_lexemes, TermText, word, bound, free, lambda, applied, TermTexts, no_more_terms, more_terms, term_lexemes, terms_lexemes}
 use Rattle.lt_grammar.specs.Rows.{Text, Texts, number, variables_lexemes, part_lexemes, parts_lexemes}
 use Rattle.lt_grammar.specs.Table.{rule_row, item_row, lemma_parts, command_row}
-use Rattle.lt_grammar.specs.RowTexts.{LineText, line, lines_lexemes, PartText, header, item, lemma, command, text_lexemes, MayStand}
+use Rattle.lt_grammar.specs.RowTexts.{row_lexemes, LineText, line, lines_lexemes, PartText, header, item, lemma, command, text_lexemes, MayStand}
 use Rattle.lt_grammar.specs.Words.{rule_word, head_word}
 use Rattle.lt_grammar.proofs.Distinct.{rule_found, head_found, IsHead}
 use Rattle.lt_grammar.proofs.OneWay.{IsClear, term_clear, terms_clear, parts_clear}
@@ -196,9 +196,9 @@ takes_parts (p ∷ ps) ts s b rest c =
     ∙ takes_parts ps ts.1 s (part_notes p ts.0 b) rest c
 
 -- the parts of a row and what is expected behind them, as they were pushed
-row-behind : (ps : List Part) (ts : Texts ps) (t s : List Symbol) (b : List Note) (rest : List Lexeme) → IsClear rest
+pub row_behind : (ps : List Part) (ts : Texts ps) (t s : List Symbol) (b : List Note) (rest : List Lexeme) → IsClear rest
     → run ((map APartOf ps ++ t) ++ s) b (parts_lexemes ps ts rest) ≡ run (t ++ s) (parts_notes ps ts b) rest
-row-behind ps ts t s b rest c = ap (λ (z : List Symbol). run z b (parts_lexemes ps ts rest)) (append_assoc (map APartOf ps) t s) ∙ takes_parts ps ts (t ++ s) b rest c
+row_behind ps ts t s b rest c = ap (λ (z : List Symbol). run z b (parts_lexemes ps ts rest)) (append_assoc (map APartOf ps) t s) ∙ takes_parts ps ts (t ++ s) b rest c
 
 -- ---- lines
 
@@ -207,17 +207,22 @@ no-pass : (o q : Option Move) → or_pass o None q ≡ o
 no-pass None q = refl
 no-pass (Some m) q = refl
 
-begun-line : (w : RuleWord) (s : List Symbol) (b : List Note) (ws : List Lexeme)
+pub begun_line : (w : RuleWord) (s : List Symbol) (b : List Note) (ws : List Lexeme)
     → run (Lines ∷ s) b (a_name (rule_word w) ∷ ws) ≡ run ((map APartOf (rule_row w).parts ++ EndLine w ∷ Lines ∷ []) ++ s) (begin_line w ∷ b) ws
-begun-line w s b ws =
+begun_line w s b ws =
     ap (λ (o : Option RuleWord). onward (or_pass (under s [] (line_move o)) None (step_on s (a_name (rule_word w)))) (λ m. run m.pushed (m.made ++ b) ws)) (rule_found w)
+
+pub takes_line : (w : RuleWord) (ts : Texts (rule_row w).parts) (s : List Symbol) (b : List Note) (rest : List Lexeme)
+    → run (Lines ∷ s) b (row_lexemes (rule_row w) ts rest) ≡ run (Lines ∷ s) (end_line w ∷ parts_notes (rule_row w).parts ts (begin_line w ∷ b)) rest
+takes_line w ts s b rest =
+    begun_line w s b (parts_lexemes (rule_row w).parts ts (a_sign kinds.Semicolon ∷ rest))
+    ∙ row_behind (rule_row w).parts ts (EndLine w ∷ Lines ∷ []) s (begin_line w ∷ b) (a_sign kinds.Semicolon ∷ rest) tt
 
 pub takes_lines : (lines : List LineText) (s : List Symbol) (b : List Note) (rest : List Lexeme)
     → run (Lines ∷ s) b (lines_lexemes lines (a_sign kinds.CloseBrace ∷ rest)) ≡ run s (lines_notes lines b) rest
 takes_lines [] s b rest = refl
 takes_lines (line w ts ∷ lines) s b rest =
-    begun-line w s b (parts_lexemes (rule_row w).parts ts (a_sign kinds.Semicolon ∷ lines_lexemes lines (a_sign kinds.CloseBrace ∷ rest)))
-    ∙ row-behind (rule_row w).parts ts (EndLine w ∷ Lines ∷ []) s (begin_line w ∷ b) (a_sign kinds.Semicolon ∷ lines_lexemes lines (a_sign kinds.CloseBrace ∷ rest)) tt
+    takes_line w ts s b (lines_lexemes lines (a_sign kinds.CloseBrace ∷ rest))
     ∙ takes_lines lines s (end_line w ∷ parts_notes (rule_row w).parts ts (begin_line w ∷ b)) rest
 
 -- ---- sentences

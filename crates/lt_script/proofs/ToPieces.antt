@@ -63,6 +63,14 @@ headers-stand : (f : Form) (ps : List PartText) → rows.AreHeaders ps → MaySt
 headers-stand f [] a = tt
 headers-stand f (p ∷ ps) (e, a) = (subst (MayStand f) (sym e) tt, headers-stand f ps a)
 
+-- the token that stands next, by what is found
+pub token_there : (s : Left) (p : Placed) → lexed s ≡ One p → (t : Scanned) × (n : IsNextToken s t) × (p.from ≡ place_of s n.found) × (lexeme p.kind (spelling s) ≡ lexeme t.kind t.spelling)
+token_there s p e =
+    let shown : Shows s (One p) = subst (Shows s) e (lexed_shown s) in
+    let t = shown.0 in let n = shown.1 in let is = shown.2 in
+    let f = next_found s t n in
+    (t, n, ap (λ (z : Placed). z.from) is, (λ i. lexeme ((is i).kind) (f.spelling i)))
+
 module _ (h : Form) where
   abbrev form : Form
   form = h
@@ -127,20 +135,12 @@ module _ (h : Form) where
       the-header (lemma l t lines) e q = absurd (cc e)
       the-header (command w ts) e q = absurd (cc e)
 
-  -- the token that stands next, by what is found
-  token-there : (s : Left) (p : Placed) → lexed s ≡ One p → (t : Scanned) × (n : IsNextToken s t) × (p.from ≡ place_of s n.found) × (lexeme p.kind (spelling s) ≡ lexeme t.kind t.spelling)
-  token-there s p e =
-      let shown : Shows s (One p) = subst (Shows s) e (lexed_shown s) in
-      let t = shown.0 in let n = shown.1 in let is = shown.2 in
-      let f = next_found s t n in
-      (t, n, ap (λ (z : Placed). z.from) is, (λ i. lexeme ((is i).kind) (f.spelling i)))
-
   -- what is wrong by rows and finding is wrong by the definitions
   wrong-by : (L K : List Lexeme → Type 0) (call : ℕ → ReadError) (ring : ℕ → Wrong) (ws vs : List Lexeme) (s : Left) (l : Lexed) (e : ReadError) → lexed s ≡ l
       → ((w : Lexeme) → texts.IsViable K (vs ++ w ∷ []) → rows.IsViable L (ws ++ w ∷ [])) → (K vs → L ws) → ((n : ℕ) → as_wrong (call n) ≡ ring n)
       → rows.IsWrong L call ws s l e → texts.IsWrong K ring vs s (as_wrong e)
   wrong-by L K call ring ws vs s (One p) e q viable whole calls (c, stops) =
-      let t = token-there s p q in
+      let t = token_there s p q in
       inr (inr (p.from, inl (t.0, t.1, t.2, λ v. stops (viable (lexeme p.kind (spelling s)) (subst (λ (z : Lexeme). texts.IsViable K (vs ++ z ∷ [])) (sym t.3) v))), ap as_wrong c ∙ calls p.from))
   wrong-by L K call ring ws vs s End e q viable whole calls (c, stops) =
       inr (inr (length s.source, inr (subst (Shows s) q (lexed_shown s), refl, λ k. stops (whole k)), ap as_wrong c ∙ calls (length s.source)))

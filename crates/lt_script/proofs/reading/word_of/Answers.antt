@@ -2,7 +2,7 @@
 use Rattle.std.proofs.Common.{◌∙◌, ap, List, ℕ}
 use Rattle.std.specs.Prelude.{chars}
 use Rattle.lt_texts.specs.Slices.{bytes_of}
-use Rattle.lt_types.specs.Lexical.{is_name}
+use Rattle.lt_definitions.specs.Characters.{is_name}
 use Rattle.lt_script.proofs.Names.{spelt_name}
 use Rattle.lt_script.proofs.reading.word_of.Goals as goal
 
