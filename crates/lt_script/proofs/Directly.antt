@@ -4,27 +4,24 @@ use Rattle.lt_texts.specs.Lexemes.{Lexeme}
 use Rattle.lt_commands.specs.declared.note.Note.{Note}
 use Rattle.lt_script.specs.declared.symbol.Symbol.{Symbol}
 use Rattle.lt_script.specs.Machine.{Move, under, expected, semicolon, step, step_on, passed, Takes}
-use Rattle.lt_commands.specs.Making.{Made, nothing, put, put_all, command_made}
+use Rattle.lt_commands.specs.Making.{Made, nothing, put, put_all}
+use Rattle.lt_texts.specs.declared.lexical.TokenKind.TheVariants as kinds
+use Rattle.lt_texts.specs.Lexemes.{a_sign}
+use Rattle.lt_commands.specs.declared.note.Note.TheVariants.{KeepType, KeepTerm, NoArguments}
+use Rattle.lt_script.specs.declared.symbol.Symbol.TheVariants.{Brackets, KeepType as AKeepType, KeepTerm as AKeepTerm}
+use Rattle.lt_script.specs.Marks.{has_begin, begins_by, begins_line, marked, token_place, marks}
+use Rattle.lt_script.proofs.Marking.{begin_under, one_begins, marks_snoc}
 use Rattle.lt_script.proofs.Stacks.{reverse_snoc, under_under, over, one_symbol}
-use Rattle.std.proofs.lemmas.List.{reverse-reverse}
-use Rattle.std.specs.Option.{option_map}
-use Rattle.lt_texts.specs.Texts.{Left}
-use Rattle.lt_texts.specs.Forms.{Form}
+use Rattle.lt_texts.specs.declared.lexical.Token.{Token as Placed}
+use Rattle.lt_texts.specs.declared.lexical.Lexed.TheVariants.{Token as One}
+use Rattle.lt_texts.specs.Texts.{Left, lexed}
 use Rattle.lt_grammar.specs.declared.words.Head.{Head}
-use Rattle.lt_commands.specs.declared.note.Note.TheVariants.{Begin}
-use Rattle.lt_script.specs.declared.reading.Next.TheVariants.{Begins}
 use Rattle.std.specs.Prelude.{map}
 use Rattle.lt_grammar.specs.declared.words.Head.TheVariants.{Header, Lemma, Item, Command as Further}
 use Rattle.lt_grammar.specs.Table.{item_row, command_row}
 use Rattle.lt_script.specs.declared.symbol.Symbol.TheVariants.{Part as APartOf}
-use Rattle.lt_script.specs.Stops.{IsWaiting, Reads, SaysNext, NextNotes, is_header}
+use Rattle.lt_script.specs.Stops.{IsWaiting}
 use Rattle.lt_script.proofs.Comes.{Came}
-use Rattle.lt_script.proofs.Parts.{Past}
-use Rattle.lt_script.proofs.Scripts.{next_part}
-use Rattle.lt_commands.specs.declared.command.Command.{Command}
-use Rattle.lt_commands.specs.Making.{put_each}
-use Rattle.lt_commands.specs.Views.{command_of}
-use Rattle.lt_script.proofs.Made.{each_all}
 use Rattle.lt_script.specs.Moves.{MovesTo, TakesTo, PassedTo, SettlesTo}
 
 pub put_append : (xs ys : List Note) (m : Made) → put_all (xs ++ ys) m ≡ put_all xs (put_all ys m)
@@ -32,11 +29,19 @@ put_append [] ys m = refl
 put_append (x ∷ xs) ys m = ap (put x) (put_append xs ys m)
 
 pub passed_none : (w : Lexeme) (s0 : List Symbol) (m : Made) → PassedTo w s0 m s0 m
-passed_none w s0 m = ([], sym (none (step_on s0 w)), refl)
+passed_none w s0 m = ([], sym (none (step_on s0 w)), refl, refl)
   where
     none : (o : Option Move) → under [] [] o ≡ o
     none None = refl
     none (Some k) = λ i. Some (record { pushed = append-nil k.pushed i; made = append-nil k.made i })
+
+-- no line begins where something is passed over
+passed-begin : (x : Symbol) (w : Lexeme) (n : Note) (b : List Note) → passed x w ≡ Some n → has_begin (n ∷ b) ≡ has_begin b
+passed-begin AKeepType w n b e = let same : KeepType ≡ n = cc e in sym (ap (λ (z : Note). has_begin (z ∷ b)) same)
+passed-begin AKeepTerm w n b e = let same : KeepTerm ≡ n = cc e in sym (ap (λ (z : Note). has_begin (z ∷ b)) same)
+passed-begin Brackets (a_sign kinds.OpenSquare) n b e = absurd (cc e)
+passed-begin Brackets w n b e = let same : NoArguments ≡ n = cc e in sym (ap (λ (z : Note). has_begin (z ∷ b)) same)
+passed-begin x w n b e = absurd (cc e)
 
 pub passed_on : (w : Lexeme) (s0 : List Symbol) (m0 : Made) (xs ys : List Symbol) (m m' : Made) (x : Symbol) (n : Note)
     → PassedTo w s0 m0 (reverse xs) m → xs ≡ ys ++ x ∷ [] → m' ≡ put n m → passed x w ≡ Some n → PassedTo w s0 m0 (reverse ys) m'
@@ -44,6 +49,7 @@ passed_on w s0 m0 xs ys m m' x n q g h k = (
   n ∷ q.0,
   q.1 ∙ ap (λ (s : List Symbol). under [] q.0 (step_on s w)) (reverse_snoc xs ys x g) ∙ ap (under [] q.0) (over x w (reverse ys) n k) ∙ under_under n q.0 (step_on (reverse ys) w),
   h ∙ ap (put n) q.2,
+  passed-begin x w n q.0 k ∙ q.3,
 )
 
 taken-by : (y : Bool) (o p : Option Move) (m0 : Made) (s s' : List Symbol) (m m' : Made) (done : List Note)
@@ -61,25 +67,27 @@ pub taken : (s0 : List Symbol) (m0 : Made) (s s' : List Symbol) (m m' : Made) (w
 taken s0 m0 s s' m m' w x y (d, q) g =
     taken-by y (step x w) (step_on s0 w) m0 s s' m m' q.0 (q.1 ∙ ap (under [] q.0) (one_symbol x s w d)) q.2 g
 
--- the notes that were put, though none was kept
-abbrev pub CameTo : List Symbol → List Note → Left → Left → List Symbol → Made → Type 0
-CameTo s0 b0 s s' st m = (b : List Note) × Came s0 b0 s s' st b × (m ≡ put_all b nothing)
+-- where a line begins with what was taken
+pub taken_marks : (s0 : List Symbol) (m0 : Made) (s s' : List Symbol) (m m' : Made) (w : Lexeme) (x : Symbol) (y : Bool)
+    → SettlesTo w (Some x) s0 m0 s m → MovesTo y (step x w) s s' m m' → y ≡ true → begins_by (step_on s0 w) ≡ begins_line x w
+taken_marks s0 m0 s s' m m' w x y (d, q) g t =
+    ap begins_by (q.1 ∙ ap (under [] q.0) (one_symbol x s w d)) ∙ begin_under [] q.0 (under s [] (step x w)) q.3
+    ∙ begin_under s [] (step x w) refl ∙ by y (step x w) refl g t
+  where
+    by : (y : Bool) (o : Option Move) → step x w ≡ o → MovesTo y o s s' m m' → y ≡ true → begins_by (step x w) ≡ begins_line x w
+    by true None e g t = absurd g
+    by true (Some k) e g t = one_begins x w k e
+    by false o e g t = absurd (cc t)
+
+-- The notes that were put, though none was kept, and where lines began on the way.
+abbrev pub CameTo : List Symbol → List Note → Left → Left → List Symbol → Made → List ℕ → Type 0
+CameTo s0 b0 s s' st m places = (b : List Note) × (c : Came s0 b0 s s' st b) × (m ≡ put_all b nothing) × (places ≡ marks s0 s c.0)
 
 pub noted : (y : Bool) (o : Option Move) (st' : List Symbol) (m m' : Made) (b : List Note) → TakesTo y o st' m m' → m ≡ put_all b nothing
     → (b' : List Note) × Takes y o st' b b' × (y ≡ true → m' ≡ put_all b' nothing)
 noted true None st' m m' b t e = absurd t
 noted true (Some k) st' m m' b (g, h) e = (k.made ++ b, (g, refl), λ u. h ∙ ap (put_all k.made) e ∙ sym (put_append k.made b nothing))
 noted false o st' m m' b t e = (b, t, λ u. absurd (cc u))
-
--- what was read and made is the next command
-pub next_part_made : (h : Form) (s s' s'' s''' : Left) (k : Head) (at : ℕ) (b : List Note) → Past h s s' → SaysNext h s' s'' (Begins k at)
-    → Reads (expected h.number k) (Begin k ∷ []) s'' b s''' → is_header k ≡ false → NextNotes h s k (reverse b) s'''
-next_part_made h s s' s'' s''' k at b p n r o =
-    next_part h s s' s'' s''' k at (reverse b) p n (subst (λ (z : List Note). Reads (expected h.number k) (Begin k ∷ []) s'' z s''') (sym (reverse-reverse b)) r) o
-
-pub as_each : (k : Head) (m : Made) (b : List Note) (o : Option Command) → m ≡ put_all b nothing → option_map command_of o ≡ command_made k m
-    → option_map command_of o ≡ command_made k (put_each (reverse b) nothing)
-as_each k m b o e f = f ∙ ap (command_made k) (e ∙ sym (each_all b nothing))
 
 some-more : (xs ys : List Symbol) (y : Symbol) → IsWaiting (xs ++ y ∷ ys)
 some-more [] ys y = tt
@@ -90,3 +98,10 @@ expected_waits n Header = tt
 expected_waits n Lemma = tt
 expected_waits n (Item w) = some-more (map APartOf (item_row w).parts) [] semicolon
 expected_waits n (Further w) = some-more (map APartOf (command_row w).parts) [] semicolon
+
+-- one token more, and the place of a line that begins with it
+pub marked_on : (s0 : List Symbol) (b0 : List Note) (s s' : Left) (st : List Symbol) (b : List Note) (c : Came s0 b0 s s' st b) (t : Placed) (w : Lexeme) (places places' : List ℕ)
+    → places ≡ marks s0 s c.0 → One t ≡ lexed s' → places' ≡ places ++ marked (begins_by (step_on st w)) t.from → places' ≡ marks s0 s (c.0 ++ w ∷ [])
+marked_on s0 b0 s s' st b c t w places places' e f g =
+    g ∙ (λ i. e i ++ marked (begins_by (step_on st w)) (token_place (f i)))
+    ∙ sym (marks_snoc c.0 w s0 st b0 b s s' c.1 c.2)

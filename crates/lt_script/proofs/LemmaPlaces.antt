@@ -53,8 +53,8 @@ spans-split s s' [] ys e = (s, refl, e)
 spans-split s s' (x ∷ xs) ys (n, e) = let r = spans-split (after s) s' xs ys e in (r.0, (n, r.1), r.2)
 
 -- the place of the token that stands next
-first-place : (s : Left) (w : Lexeme) → IsNextLexeme s w → IsFirstPlace s (token_place (lexed s))
-first-place s w n =
+pub first_place : (s : Left) (w : Lexeme) → IsNextLexeme s w → IsFirstPlace s (token_place (lexed s))
+first_place s w n =
     let t = token_there s n.placed n.found in
     let k = t.1 in
     (k.found, k.past, ap token_place n.found ∙ t.2)
@@ -98,7 +98,7 @@ lines-found (line w ts ∷ lines) st rest s s' e =
       token_place (lexed s) ∷ later.0,
       later.1,
       (
-        first-place s (a_name (rule_row w).word) one.0,
+        first_place s (a_name (rule_row w).word) one.0,
         q.0,
         (row_lexemes (rule_row w) ts [], one-written w ts, spans_reads s (row_lexemes (rule_row w) ts []) q.0 one),
         later.2,
@@ -124,10 +124,10 @@ module _ (h : Form) where
   lemma-splits l p lines = parts_splits lemma_parts (l, (tt, (p, tt))) (a_sign kinds.OpenBrace ∷ []) (tail-lexemes lines)
 
   -- what was read behind the word of a lemma, with the places that were marked
-  pub lemma_at : (l : Chars) (p : TermText) (lines : List LineText) (s s' : Left) (ws : List Lexeme) (places : List ℕ) → Spans s (text_lexemes h (lemma l p lines) []) s'
-      → a_name (codes "lemma") ∷ ws ≡ text_lexemes h (lemma l p lines) [] → places ≡ marks (expected h.number Lemma) (after s) ws
+  pub lemma_at : (l : Chars) (p : TermText) (lines : List LineText) (s s' : Left) (ws : List Lexeme) (places : List ℕ) (c : Chars) → Spans s (text_lexemes h (lemma l p lines) []) s'
+      → a_name c ∷ ws ≡ text_lexemes h (lemma l p lines) [] → places ≡ marks (expected h.number Lemma) (after s) ws
       → LemmaAt s l (term_of_text p) (map rule_of_text lines) places s'
-  lemma_at l p lines s s' ws places e q f =
+  lemma_at l p lines s s' ws places c e q f =
       let split = lemma-splits l p lines in
       let all : Spans s ((a_name (codes "lemma") ∷ head-lexemes l p) ++ tail-lexemes lines) s' = subst (λ (z : List Lexeme). Spans s (a_name (codes "lemma") ∷ z) s') split e in
       let g = spans-split s s' (a_name (codes "lemma") ∷ head-lexemes l p) (tail-lexemes lines) all in

@@ -20,14 +20,14 @@ use Rattle.lt_script.specs.Machine.{Move, go, under, step_type, step_term, step_
 use Rattle.lt_script.specs.Marks.{has_begin, begins_by, begins_line, marked, token_place, stack_by, marks}
 use Rattle.lt_script.proofs.Stacks.{one_symbol}
 
-pub begin-append : (xs ys : List Note) → has_begin ys ≡ false → has_begin (xs ++ ys) ≡ has_begin xs
+begin-append : (xs ys : List Note) → has_begin ys ≡ false → has_begin (xs ++ ys) ≡ has_begin xs
 begin-append [] ys e = e
 begin-append (BeginLine w ∷ xs) ys e = refl
 begin-append (n ∷ xs) ys e = begin-append xs ys e
 
-begin-under : (s : List Symbol) (b : List Note) (o : Option Move) → has_begin b ≡ false → begins_by (under s b o) ≡ begins_by o
-begin-under s b None e = refl
-begin-under s b (Some m) e = begin-append m.made b e
+pub begin_under : (s : List Symbol) (b : List Note) (o : Option Move) → has_begin b ≡ false → begins_by (under s b o) ≡ begins_by o
+begin_under s b None e = refl
+begin_under s b (Some m) e = begin-append m.made b e
 
 type-begins : (w : Lexeme) → begins_by (step_type w) ≡ false
 type-begins (a_variable a) = refl
@@ -55,9 +55,9 @@ part-begins Variable w = refl
 part-begins Parameters (a_variable a) = refl
 part-begins Parameters (a_sign kinds.Colon) = refl
 part-begins Parameters w = refl
-part-begins AType w = begin-under (AKeepType ∷ []) [] (step_type w) refl ∙ type-begins w
-part-begins AStatement w = begin-under (AKeepTerm ∷ []) [] (step_term w) refl ∙ term-begins w
-part-begins ATerm w = begin-under (AKeepTerm ∷ []) [] (step_term w) refl ∙ term-begins w
+part-begins AType w = begin_under (AKeepType ∷ []) [] (step_type w) refl ∙ type-begins w
+part-begins AStatement w = begin_under (AKeepTerm ∷ []) [] (step_term w) refl ∙ term-begins w
+part-begins ATerm w = begin_under (AKeepTerm ∷ []) [] (step_term w) refl ∙ term-begins w
 part-begins (Exactly k) w = if-begins (is_fixed k w)
 
 more-types-begin : (w : Lexeme) → begins_by (step_more_types w) ≡ false
@@ -98,7 +98,7 @@ one_begins MoreArguments (a_variable a) m e = refl
 one_begins MoreArguments (a_name c) m e = refl
 one_begins MoreArguments (a_sign kinds.Open) m e = refl
 one_begins MoreArguments w m e = refl
-one_begins MoreTerms w m e = begin-under [] (Apply ∷ []) (step_more_terms w) refl ∙ more-terms-begin w
+one_begins MoreTerms w m e = begin_under [] (Apply ∷ []) (step_more_terms w) refl ∙ more-terms-begin w
 one_begins BoundName (a_name c) m e = refl
 one_begins BoundName w m e = refl
 one_begins AFreeName (a_name c) m e = refl
@@ -107,7 +107,7 @@ one_begins CloseFree (a_sign kinds.Close) m e = refl
 one_begins CloseFree w m e = refl
 one_begins ALambdaName (a_name c) m e = refl
 one_begins ALambdaName w m e = refl
-one_begins Body w m e = begin-under [] (KeepType ∷ []) (step_term w) refl ∙ term-begins w
+one_begins Body w m e = begin_under [] (KeepType ∷ []) (step_term w) refl ∙ term-begins w
 one_begins CloseLambda (a_sign kinds.Close) m e = refl
 one_begins CloseLambda w m e = refl
 one_begins AKeepType w m e = refl

@@ -166,13 +166,13 @@ module _ (h : Form) where
   begun c k e ws = begun-by (head_of h c) k ws e
 
   -- what was read behind the word of a part is that part
-  pub reads_part : (s s' : Left) (c : Chars) (k : Head) (b : List Note) → IsNextLexeme s (a_name c) → head_of h c ≡ Some k → Reads (expected h.number k) (begin k ∷ []) (after s) b s'
-      → (p : PartText) × MayStand h p × Spans s (text_lexemes h p []) s' × (b ≡ text_notes p [])
+  pub reads_part : (s s' : Left) (c : Chars) (k : Head) (b : List Note) → IsNextLexeme s (a_name c) → head_of h c ≡ Some k → (r : Reads (expected h.number k) (begin k ∷ []) (after s) b s')
+      → (p : PartText) × MayStand h p × Spans s (text_lexemes h p []) s' × (b ≡ text_notes p []) × (a_name c ∷ r.0 ≡ text_lexemes h p [])
   reads_part s s' c k b n e (ws, f, g) =
       let came : first_run (step_part h) (a_name c ∷ ws) ≡ Some (state [] b) = begun c k e ws ∙ g in
       let l = part-of (a_name c ∷ ws) (sound_sentence h (a_name c) ws b (ap finished came)) in
       let same : Some (state [] b) ≡ Some (state [] (text_notes l.0 [])) = sym came ∙ ap (first_run (step_part h)) l.2 ∙ takes_text h l.0 [] l.1 in
-      (l.0, l.1, subst (λ (z : List Lexeme). Spans s z s') l.2 (n, f), ap made_of same)
+      (l.0, l.1, subst (λ (z : List Lexeme). Spans s z s') l.2 (n, f), ap made_of same, l.2)
     where
       part-of : (ws : List Lexeme) → BeginsSentence h [] ws → (p : PartText) × MayStand h p × (ws ≡ text_lexemes h p [])
       part-of ws (rest, (p, m, e), f) = (p, m, e ∙ ap (text_lexemes h p) f)

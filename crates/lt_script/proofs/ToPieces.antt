@@ -47,9 +47,9 @@ written-rows f (x ∷ xs) ws a h =
     let r = written-rows f xs s.0 a.1 s.2 in
     (p.0 ∷ r.0, (allowed_may f p.0 (subst (IsAllowed f) (sym p.1) a.0), r.1), p.2 ∙ ap (text_lexemes f p.0) r.2)
 
-headers-again : (ps : List PartText) → rows.AreHeaders ps → texts.AreHeaders (map sentence_of ps)
-headers-again [] a = tt
-headers-again (p ∷ ps) (e, a) = (ap sentence_of e, headers-again ps a)
+pub headers_again : (ps : List PartText) → rows.AreHeaders ps → texts.AreHeaders (map sentence_of ps)
+headers_again [] a = tt
+headers_again (p ∷ ps) (e, a) = (ap sentence_of e, headers_again ps a)
 
 texts-join : (f : Form) (ps qs : List PartText) → texts_lexemes f ps (texts_lexemes f qs []) ≡ texts_lexemes f (ps ++ qs) []
 texts-join f [] qs = refl
@@ -95,7 +95,7 @@ module _ (h : Form) where
       let is : sentence_of p ≡ a_command c = the-command p c q in
       let r = headers-there s s' ps (text_lexemes form p []) e in (
         map sentence_of ps,
-        headers-again ps a,
+        headers_again ps a,
         subst (IsAllowed form) is (may_allowed form p m),
         r.0,
         r.1,
@@ -104,7 +104,7 @@ module _ (h : Form) where
 
   pub at_end : (s : Left) → rows.AtEnd h s → texts.AtEnd form s
   at_end s (ps, s', a, e, n) =
-      (map sentence_of ps, headers-again ps a, s', (texts_lexemes form ps [], rows_written form ps, spans_reads s (texts_lexemes form ps []) s' e), subst (Shows s') n (lexed_shown s'))
+      (map sentence_of ps, headers_again ps a, s', (texts_lexemes form ps [], rows_written form ps, spans_reads s (texts_lexemes form ps []) s' e), subst (Shows s') n (lexed_shown s'))
 
   -- ---- what is wrong
 
@@ -189,7 +189,7 @@ module _ (h : Form) where
   fails_at s e (ps, a, ws, (p, m, w, more, q), at, spans, wrong) =
       let r = headers-there s at ps ws spans in (
         map sentence_of ps,
-        headers-again ps a,
+        headers_again ps a,
         r.0,
         r.1,
         sentence_of p,

@@ -1,5 +1,5 @@
 -- What the machine makes of a text from a stack on, and where it stops.
-use Rattle.std.specs.Prelude.{◌≡◌, ℕ, List, [], ◌∷◌, ◌++◌, length, reverse, Some, None, Bool, true, false}
+use Rattle.std.specs.Prelude.{◌≡◌, ℕ, List, [], ◌∷◌, ◌++◌, length, Some, None, Bool, true, false}
 use Rattle.lt_texts.specs.declared.lexical.Lexed.{Lexed}
 use Rattle.lt_texts.specs.declared.lexical.Lexed.TheVariants.{Token as One, End, BadByte as NoText, BadChar as NoToken}
 use Rattle.lt_texts.specs.declared.lexical.Token.{Token}
@@ -9,7 +9,6 @@ use Rattle.lt_texts.specs.Lexemes.{Lexeme, a_name, lexeme, Spans}
 use Rattle.lt_texts.specs.Forms.{Form}
 use Rattle.lt_grammar.specs.declared.words.Head.{Head}
 use Rattle.lt_grammar.specs.declared.words.Head.TheVariants.{Header}
-use Rattle.lt_grammar.specs.RowTexts.{PartText}
 use Rattle.lt_grammar.specs.Words.{head_of}
 use Rattle.lt_script.specs.declared.symbol.Symbol.{Symbol}
 use Rattle.lt_script.specs.declared.read_error.ReadError.{ReadError}
@@ -18,8 +17,6 @@ use Rattle.lt_commands.specs.declared.note.Note.{Note}
 use Rattle.lt_script.specs.declared.reading.Next.{Next}
 use Rattle.lt_script.specs.declared.reading.Next.TheVariants.{End as Ends, Begins, Other, BadByte as NoByte, BadChar as NoChar}
 use Rattle.lt_script.specs.Machine.{State, state, step_part, run}
-use Rattle.lt_commands.specs.Notes.{text_notes, head_of_text}
-use Rattle.lt_script.specs.Reading.{NextText}
 
 -- something is expected
 abbrev pub IsWaiting : List Symbol → Type 0
@@ -59,10 +56,6 @@ SaysNext h s s' (Begins k at) = (c : Chars) × (t : Token) × (lexed s ≡ One t
 SaysNext h s s' (Other at) = (t : Token) × (lexed s ≡ One t) × (at ≡ t.from) × (step_part h (lexeme t.kind (spelling s)) ≡ None)
 SaysNext h s s' (NoByte at) = lexed s ≡ NoText at
 SaysNext h s s' (NoChar at) = lexed s ≡ NoToken at
-
--- a part that is no header, behind headers if there are any, with what is noted of it
-abbrev pub NextNotes : Form → Left → Head → List Note → Left → Type 0
-NextNotes h s k made s' = (p : PartText) × NextText h s p s' × (made ≡ reverse (text_notes p [])) × (k ≡ head_of_text p)
 
 -- what a word at a place begins
 abbrev pub Heads : Form → Lexeme → ℕ → Next → Type 0

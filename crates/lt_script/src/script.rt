@@ -1,117 +1,154 @@
-//! Reads commands without a row of notes between.
-ghost use Rattle.std.specs.Prelude.{◌≡◌, List, [], ◌∷◌, length, IfOk, IfErr, MatchOption};
-ghost use Rattle.lt_commands.specs.declared.note.Note.{Note};
-ghost use Rattle.lt_commands.specs.declared.note.Note.TheVariants.{Begin};
-ghost use Rattle.lt_script.specs.Machine.{expected};
-ghost use Rattle.lt_commands.specs.Making.{nothing, put_all};
-ghost use Rattle.lt_script.specs.Openings.{form_of};
-ghost use Rattle.lt_script.specs.Promises.{Refuses};
-ghost use Rattle.lt_script.specs.Reading as rows;
-ghost use Rattle.lt_texts.specs.WrongPlaces.{AtEnd, NextCommand};
-ghost use Rattle.lt_script.specs.Stops.{Reads, IsStopped, call_of, is_header};
-ghost use Rattle.lt_commands.specs.Views.{made_of, command_of};
+//! A text that is read command by command.
+ghost use Rattle.std.specs.Prelude.{◌≡◌, List, length, chars, IfOk, IfErr, OnOk, OnErr, MatchOption};
+ghost use Rattle.lt_definitions.specs.Types.{Chars};
+ghost use Rattle.lt_texts.specs.CommandPlaces.{NextPlaced};
+ghost use Rattle.lt_texts.specs.Forms.{header_text};
+ghost use Rattle.lt_texts.specs.WrongPlaces.{AtEnd, Stands};
+ghost use Rattle.lt_commands.specs.Views.{command_of};
+ghost use Rattle.lt_script.specs.Openings.{allowed_words};
+ghost use Rattle.lt_script.specs.Promises.{Refuses, RefusesHeader};
+ghost use Rattle.lt_script.specs.Scripts.{Begun, begun_of, form_in, headed};
+ghost use Rattle.lt_script.specs.declared.form.Allowed.TheVariants as kinds;
 
-use lt_commands::Command;
-use crate::taking::{expect_head, take};
-use lt_commands::Maker;
-use lt_texts::lexical::Lexed;
-use lt_grammar::words::{Head};
 use crate::form::{Allowed, Opening};
-use lt_lex::Lexer;
+use crate::known_words::KnownWords;
 use crate::read_error::ReadError;
-use crate::reading::{Next, next_head, word_of, wrong_at};
+use crate::sentences::{next_spanned, read_header};
+use crate::spanned::Spanned;
+use lt_lex::Lexer;
 use std::alloc::Global;
+use std::marker::Model;
 
-/// What stands next, behind the word of a sentence, makes; `end` is the text's length.
-fn read(
-    alloc: Global,
-    lexer: &mut Lexer<'_>,
+/// A text that is read command by command. Contracts see what is left of it, and the word and the
+/// number of the header that was read last.
+#[derive(Drop)]
+pub struct Script<'a> {
+    lexer: Lexer<'a>,
     end: usize,
-    number: u32,
-    head: Head,
-) -> Result<Maker, ReadError>
-    requires { end ≡ length lexer.old.source }
-    ensures read { IfOk result (λ m. (b : List Note)
-        × Reads (expected number head) (Begin head ∷ []) lexer.old b lexer.new
-        × (made_of m ≡ put_all b nothing)) }
-    ensures wrong { IfErr result
-        (λ e. IsStopped (expected number head) (Begin head ∷ []) (call_of head) lexer.old e) }
-{
-    let mut stack = Vec::new(alloc);
-    let mut made = Maker::new(alloc);
-    expect_head(&mut stack, number, head)?;
-    'words: loop {
-        let token = match lexer.next_token() {
-            Lexed::Token(token) => token,
-            Lexed::End => return Err(wrong_at(head, end)),
-            Lexed::BadByte(at) => return Err(ReadError::BadByte(at)),
-            Lexed::BadChar(at) => return Err(ReadError::BadChar(at)),
-        };
-        let word = word_of(alloc, lexer, token)?;
-        if !take(alloc, &mut stack, &mut made, word)? {
-            return Err(wrong_at(head, token.from));
-        }
-        if stack.is_empty() {
-            return Ok(made);
-        }
-    }
+    opening: Opening,
+    words: KnownWords,
 }
 
-/// The next command, or None at the text's end; or the first place where no text of this form goes
-/// on so. Headers before it are passed over. `end` is the text's length. After a refusal the lexer
-/// stands somewhere behind the place.
-pub fn read_command(
-    alloc: Global,
-    lexer: &mut Lexer<'_>,
-    end: usize,
-    opening: &Opening,
-    allowed: Allowed,
-) -> Result<Option<Command>, ReadError>
-    requires { end ≡ length lexer.old.source }
-    ensures command { IfOk result (λ o. MatchOption o (AtEnd (form_of opening.now allowed) lexer.old)
-        (λ c. NextCommand (form_of opening.now allowed) lexer.old (command_of c) lexer.new)) }
-    ensures wrong { IfErr result (λ e. Refuses (form_of opening.now allowed) lexer.old e) }
-{
-    next_by_rows(alloc, lexer, end, opening, allowed)
+impl<'a> Model for Script<'a> {
+    ghost use Rattle.lt_script.specs.Openings.{word_of};
+    ghost use Rattle.lt_script.specs.Scripts.{Begun};
+
+    ghost Value = { Begun };
+
+    ghost view = { λ s. record { left = s.lexer; word = word_of s.opening; number = s.opening.number } };
+
+    ghost use Rattle.std.specs.Prelude.{◌≡◌, length};
+
+    ghost invariant = { λ s. s.end ≡ length s.lexer.source };
 }
 
-/// The same, by rows.
-fn next_by_rows(
-    alloc: Global,
-    lexer: &mut Lexer<'_>,
-    end: usize,
-    opening: &Opening,
-    allowed: Allowed,
-) -> Result<Option<Command>, ReadError>
-    requires { end ≡ length lexer.old.source }
-    ensures command { IfOk result (λ o. MatchOption o (rows.AtEnd (form_of opening.now allowed) lexer.old)
-        (λ c. rows.NextCommand (form_of opening.now allowed) lexer.old (command_of c) lexer.new)) }
-    ensures wrong { IfErr result (λ e. rows.Fails (form_of opening.now allowed) lexer.old e) }
-{
-    'parts: loop {
-        match next_head(alloc, lexer, opening, allowed)? {
-            Next::End => return Ok(None),
-            Next::Begins(head, _) => match read(alloc, lexer, end, opening.number, head) {
-                Ok(maker) => {
-                    if !is_header(head) {
-                        let Some(command) = maker.command(head) else {
-                            unreachable!()
-                        };
-                        return Ok(Some(command));
-                    }
-                }
-                Err(error) => return Err(error),
+impl<'a> Script<'a> {
+    /// A text from its begin, of which no header was read. It takes time in the text's length.
+    pub fn new(alloc: Global, text: &'a [u8]) -> Script<'a>
+        ensures { result ≡ begun_of text.now }
+    {
+        Script {
+            lexer: Lexer::new(text),
+            end: text.len(),
+            opening: Opening {
+                word: String::new(alloc),
+                number: 0,
             },
-            Next::Other(at) => return Err(ReadError::BadCommand(at)),
-            Next::BadByte(at) => return Err(ReadError::BadByte(at)),
-            Next::BadChar(at) => return Err(ReadError::BadChar(at)),
+            words: KnownWords::new(alloc),
         }
     }
-}
 
-/// Whether the header begins so.
-fn is_header(head: Head) -> bool
-    ensures { result ≡ is_header head }
-{
-    matches!(head, Head::Header)
+    /// Reads the header with this word and this number.
+    ///
+    /// `BadHeader` has the first place at which the text can't go on as that header; `BadByte` and
+    /// `BadChar` come before it. After a refusal the script is as before.
+    pub fn header(&mut self, alloc: Global, word: &str, number: u32) -> Result<(), ReadError>
+        ensures ok { OnOk result ((self.new.word ≡ chars word.now) × (self.new.number ≡ number)) }
+        ensures header { IfOk result (λ _. (commands : List Chars) → Stands self.old.left
+            (header_text (headed (chars word.now) number commands)) self.new.left) }
+        ensures wrong { IfErr result (λ e. (commands : List Chars)
+            → RefusesHeader (headed (chars word.now) number commands) self.old.left e) }
+        ensures err { OnErr result (self.new ≡ self.old) }
+    {
+        let opening = Opening {
+            word: String::from_str(alloc, word)?,
+            number,
+        };
+        let mut lexer = self.lexer.copy();
+        match read_header(alloc, &mut self.words, &mut lexer, self.end, &opening) {
+            Ok(()) => {
+                self.lexer = lexer;
+                self.opening = opening;
+                Ok(())
+            }
+            Err(error) => Err(error),
+        }
+    }
+
+    /// The next command with its places, behind repetitions of the header that was read last, or
+    /// None at the text's end.
+    ///
+    /// `BadCommand` has the place of a token that stands where a command begins and is no command's
+    /// word, `BadHeader` the first place at which the text can't go on as the header whose word
+    /// stands there, and `Syntax` any other first place at which no text goes on; `BadByte` and
+    /// `BadChar` come before them. After a refusal, and at the end, the script is as before. It
+    /// takes time in the bytes that it passes over.
+    pub fn parse_command(&mut self, alloc: Global) -> Result<Option<Spanned>, ReadError>
+        ensures command { IfOk result
+            (λ o. MatchOption o (AtEnd (form_in self.old (allowed_words kinds.All)) self.old.left)
+            (λ d. NextPlaced (form_in self.old (allowed_words kinds.All)) self.old.left
+                (command_of d.command) d.from d.lines d.to self.new.left)) }
+        ensures wrong { IfErr result
+            (λ e. Refuses (form_in self.old (allowed_words kinds.All)) self.old.left e) }
+        ensures header { (self.new.word ≡ self.old.word) × (self.new.number ≡ self.old.number) }
+        ensures end { IfOk result (λ o. MatchOption o (self.new ≡ self.old) (λ d. ⊤)) }
+        ensures err { OnErr result (self.new ≡ self.old) }
+    {
+        self.parse(alloc, Allowed::All)
+    }
+
+    /// The same for items alone: another command's word is `BadCommand`.
+    pub fn parse_item(&mut self, alloc: Global) -> Result<Option<Spanned>, ReadError>
+        ensures command { IfOk result
+            (λ o. MatchOption o (AtEnd (form_in self.old (allowed_words kinds.Items)) self.old.left)
+            (λ d. NextPlaced (form_in self.old (allowed_words kinds.Items)) self.old.left
+                (command_of d.command) d.from d.lines d.to self.new.left)) }
+        ensures wrong { IfErr result
+            (λ e. Refuses (form_in self.old (allowed_words kinds.Items)) self.old.left e) }
+        ensures header { (self.new.word ≡ self.old.word) × (self.new.number ≡ self.old.number) }
+        ensures end { IfOk result (λ o. MatchOption o (self.new ≡ self.old) (λ d. ⊤)) }
+        ensures err { OnErr result (self.new ≡ self.old) }
+    {
+        self.parse(alloc, Allowed::Items)
+    }
+
+    /// The next of the commands that may stand.
+    fn parse(&mut self, alloc: Global, allowed: Allowed) -> Result<Option<Spanned>, ReadError>
+        ensures command { IfOk result
+            (λ o. MatchOption o (AtEnd (form_in self.old (allowed_words allowed)) self.old.left)
+            (λ d. NextPlaced (form_in self.old (allowed_words allowed)) self.old.left
+                (command_of d.command) d.from d.lines d.to self.new.left)) }
+        ensures wrong { IfErr result
+            (λ e. Refuses (form_in self.old (allowed_words allowed)) self.old.left e) }
+        ensures header { (self.new.word ≡ self.old.word) × (self.new.number ≡ self.old.number) }
+        ensures end { IfOk result (λ o. MatchOption o (self.new ≡ self.old) (λ d. ⊤)) }
+        ensures err { OnErr result (self.new ≡ self.old) }
+    {
+        let mut lexer = self.lexer.copy();
+        match next_spanned(
+            alloc,
+            &mut self.words,
+            &mut lexer,
+            self.end,
+            &self.opening,
+            allowed,
+        ) {
+            Ok(Some(spanned)) => {
+                self.lexer = lexer;
+                Ok(Some(spanned))
+            }
+            Ok(None) => Ok(None),
+            Err(error) => Err(error),
+        }
+    }
 }
