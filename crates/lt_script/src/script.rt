@@ -1,5 +1,5 @@
 //! A text that is read command by command.
-ghost use Rattle.std.specs.Prelude.{◌≡◌, List, length, chars, IfOk, IfErr, OnOk, OnErr, MatchOption};
+ghost use Rattle.std.specs.Prelude.{◌≡◌, ◌<◌, ⊤, List, length, chars, IfOk, IfErr, OnOk, OnErr, MatchOption};
 ghost use Rattle.lt_definitions.specs.Types.{Chars};
 ghost use Rattle.lt_texts.specs.CommandPlaces.{NextPlaced};
 ghost use Rattle.lt_texts.specs.Forms.{header_text};
@@ -100,6 +100,8 @@ impl<'a> Script<'a> {
                 (command_of d.command) d.from d.lines d.to self.new.left)) }
         ensures wrong { IfErr result
             (λ e. Refuses (form_in self.old (allowed_words kinds.All)) self.old.left e) }
+        ensures shorter { IfOk result (λ o. MatchOption o ⊤
+            (λ d. length self.new.left.ahead < length self.old.left.ahead)) }
         ensures header { (self.new.word ≡ self.old.word) × (self.new.number ≡ self.old.number) }
         ensures end { IfOk result (λ o. MatchOption o (self.new ≡ self.old) (λ d. ⊤)) }
         ensures err { OnErr result (self.new ≡ self.old) }
@@ -115,6 +117,8 @@ impl<'a> Script<'a> {
                 (command_of d.command) d.from d.lines d.to self.new.left)) }
         ensures wrong { IfErr result
             (λ e. Refuses (form_in self.old (allowed_words kinds.Items)) self.old.left e) }
+        ensures shorter { IfOk result (λ o. MatchOption o ⊤
+            (λ d. length self.new.left.ahead < length self.old.left.ahead)) }
         ensures header { (self.new.word ≡ self.old.word) × (self.new.number ≡ self.old.number) }
         ensures end { IfOk result (λ o. MatchOption o (self.new ≡ self.old) (λ d. ⊤)) }
         ensures err { OnErr result (self.new ≡ self.old) }
@@ -130,6 +134,8 @@ impl<'a> Script<'a> {
                 (command_of d.command) d.from d.lines d.to self.new.left)) }
         ensures wrong { IfErr result
             (λ e. Refuses (form_in self.old (allowed_words allowed)) self.old.left e) }
+        ensures shorter { IfOk result (λ o. MatchOption o ⊤
+            (λ d. length self.new.left.ahead < length self.old.left.ahead)) }
         ensures header { (self.new.word ≡ self.old.word) × (self.new.number ≡ self.old.number) }
         ensures end { IfOk result (λ o. MatchOption o (self.new ≡ self.old) (λ d. ⊤)) }
         ensures err { OnErr result (self.new ≡ self.old) }

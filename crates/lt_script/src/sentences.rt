@@ -1,5 +1,5 @@
 //! Reads headers, and commands behind headers.
-ghost use Rattle.std.specs.Prelude.{◌≡◌, List, [], length, IfOk, IfErr, MatchOption};
+ghost use Rattle.std.specs.Prelude.{◌≡◌, ◌<◌, ⊤, List, [], length, IfOk, IfErr, MatchOption};
 ghost use Rattle.lt_definitions.specs.Types.{Chars};
 ghost use Rattle.lt_grammar.specs.RowTexts.{header, text_lexemes};
 ghost use Rattle.lt_texts.specs.CommandPlaces.{NextPlaced};
@@ -38,6 +38,8 @@ pub(crate) fn next_spanned(
         (λ o. MatchOption o (AtEnd (form_of opening.now allowed) lexer.old)
         (λ d. NextPlaced (form_of opening.now allowed) lexer.old
             (command_of d.command) d.from d.lines d.to lexer.new)) }
+    ensures shorter { IfOk result (λ o. MatchOption o ⊤
+        (λ d. length lexer.new.ahead < length lexer.old.ahead)) }
     ensures wrong { IfErr result (λ e. Fails (form_of opening.now allowed) lexer.old e) }
 {
     'parts: loop {

@@ -27,6 +27,16 @@ returns-then-not-is_header-clause-command c =
     next_placed (form_of c.args.opening.now c.args.allowed) c.args.lexer.now c.parts.lexer c.next_head.new.lexer c.read.new.lexer c.in-Begins.head c.in-Begins.from c.in-Ok.behind.to c.in-Ok.ensures.read.0 c.in-Ok.behind.places.items c.command.result c.in-Some.command
     c.parts.invariant.past n c.in-Ok.ensures.read.1 (sym c.is_header.ensures ∙ c.if-not-is_header.true) (c.command.ensures ∙ ap (command_made c.in-Begins.head) c.in-Ok.ensures.read.2) c.in-Some.is c.in-Ok.ensures.read.3
 
+pub returns-then-not-is_header-clause-shorter : goal.returns-then-not-is_header-clause-shorter
+returns-then-not-is_header-clause-shorter c =
+    let n : SaysNext (form_of c.args.opening.now c.args.allowed) c.parts.lexer c.next_head.new.lexer (Begins c.in-Begins.head c.in-Begins.from) = rw c.in-Begins.is at c.in_ok-next_head.ensures.next in
+    omega (
+      arith,
+      c.parts.invariant.later,
+      begun_shorter (form_of c.args.opening.now c.args.allowed) c.parts.lexer c.next_head.new.lexer c.in-Begins.head c.in-Begins.from n,
+      read_no_longer (expected c.args.opening.now.number c.in-Begins.head) (Begin c.in-Begins.head ∷ []) c.in-Ok.ensures.read.0 c.next_head.new.lexer c.read.new.lexer (unmarked (expected c.args.opening.now.number c.in-Begins.head) (Begin c.in-Begins.head ∷ []) c.in-Ok.ensures.read.0 c.next_head.new.lexer c.read.new.lexer c.in-Ok.behind.places.items c.in-Ok.ensures.read.1),
+    )
+
 pub parts-smaller : goal.parts-smaller
 parts-smaller c =
     let n : SaysNext (form_of c.args.opening.now c.args.allowed) c.parts.lexer c.next_head.new.lexer (Begins c.in-Begins.head c.in-Begins.from) = rw c.in-Begins.is at c.in_ok-next_head.ensures.next in
@@ -44,6 +54,12 @@ parts-preserved c =
           (unmarked (expected c.args.opening.now.number c.in-Begins.head) (Begin c.in-Begins.head ∷ []) c.in-Ok.ensures.read.0 c.next_head.new.lexer c.read.new.lexer c.in-Ok.behind.places.items c.in-Ok.ensures.read.1) (sym c.is_header.ensures ∙ c.if-not-is_header.false);
       end = c.parts.invariant.end ∙ sym (ap length (read_source (expected c.args.opening.now.number c.in-Begins.head) (Begin c.in-Begins.head ∷ []) c.in-Ok.ensures.read.0 c.next_head.new.lexer c.read.new.lexer (unmarked (expected c.args.opening.now.number c.in-Begins.head) (Begin c.in-Begins.head ∷ []) c.in-Ok.ensures.read.0 c.next_head.new.lexer c.read.new.lexer c.in-Ok.behind.places.items c.in-Ok.ensures.read.1)
           ∙ begun_source (form_of c.args.opening.now c.args.allowed) c.parts.lexer c.next_head.new.lexer c.in-Begins.head c.in-Begins.from n));
+      later = omega (
+        arith,
+        c.parts.invariant.later,
+      begun_shorter (form_of c.args.opening.now c.args.allowed) c.parts.lexer c.next_head.new.lexer c.in-Begins.head c.in-Begins.from n,
+      read_no_longer (expected c.args.opening.now.number c.in-Begins.head) (Begin c.in-Begins.head ∷ []) c.in-Ok.ensures.read.0 c.next_head.new.lexer c.read.new.lexer (unmarked (expected c.args.opening.now.number c.in-Begins.head) (Begin c.in-Begins.head ∷ []) c.in-Ok.ensures.read.0 c.next_head.new.lexer c.read.new.lexer c.in-Ok.behind.places.items c.in-Ok.ensures.read.1),
+    );
     }
 
 pub returns-in-Err-clause-wrong : goal.returns-in-Err-clause-wrong
