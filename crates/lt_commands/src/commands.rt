@@ -9,6 +9,7 @@ ghost use Rattle.lt_commands.specs.Views.{made_of, command_of};
 
 use crate::command::Command;
 use crate::maker::Maker;
+use crate::term_sink::TermSink;
 use lt_grammar::words::{CommandWord, Head, ItemWord};
 
 impl Maker {
@@ -252,7 +253,8 @@ impl Maker {
         let mut maker = self;
         let statement = maker.whole();
         let label = maker.newest_label();
-        let Maker { lines, .. } = maker;
+        let Maker { terms, .. } = maker;
+        let TermSink { lines, .. } = terms;
         Some(Command::Lemma(label?, statement?, lines))
     }
 

@@ -6,7 +6,9 @@ mod commands;
 mod maker;
 mod note;
 mod rows;
+mod term_sink;
 
-pub use command::{Command, RuleLine};
+pub use command::Command;
 pub use maker::Maker;
 pub use note::Note;
+pub use term_sink::TermSink;
