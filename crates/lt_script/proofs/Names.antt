@@ -35,6 +35,13 @@ word_same bs w u v a =
     same_from_decides (bytes_eq bs w) (bytes_eq (chars bs) w) (bytes_eq-Decides bs w)
     (λ e. same_bytes bs w u v (d.0 e ∙ sym same), λ e. d.1 (ap chars e ∙ same))
 
+-- two texts are one where their characters are
+pub text_same : (bs w : List ℕ) → IsUtf8 bs → IsUtf8 w → bytes_eq bs w ≡ bytes_eq (chars bs) (chars w)
+text_same bs w u v =
+    let d = bytes_eq-Decides (chars bs) (chars w) in
+    same_from_decides (bytes_eq bs w) (bytes_eq (chars bs) (chars w)) (bytes_eq-Decides bs w)
+    (λ e. same_bytes bs w u v (d.0 e), λ e. d.1 (ap chars e))
+
 -- behind the quote of a type variable stands a name
 pub variable_name : (text rest : List ℕ) (q : ℕ) → text ≡ q ∷ rest → is_type_variable text ≡ true → is_name rest ≡ true
 variable_name text rest q e h = (and_parts _ _ (ap is_type_variable (sym e) ∙ h)).1

@@ -6,7 +6,7 @@ use Rattle.lt_definitions.specs.Characters.{is_name}
 use Rattle.lt_script.proofs.Names.{spelt_name}
 use Rattle.lt_script.proofs.reading.word_of.Goals as goal
 
-pub word-requires : goal.word-requires
-word-requires c =
+pub name-requires : goal.name-requires
+name-requires c =
     ap (λ (z : List ℕ). is_name (chars z)) c.text.ensures
     ∙ spelt_name c.args.token.kind (chars (bytes_of c.args.lexer.now.source c.args.token)) c.in-Name.is c.requires.spelt
