@@ -53,11 +53,12 @@ pub(crate) fn next_spanned(
                             let Some(command) = maker.command(head) else {
                                 unreachable!()
                             };
+                            let lines = List::from_vec(places);
                             return Ok(Some(Spanned {
                                 command,
                                 from,
                                 to,
-                                lines: List::from_vec(places),
+                                lines,
                             }));
                         }
                     }

@@ -1,5 +1,7 @@
 -- Headers are passed over; then a command, the end or a wrong place.
-use Rattle.std.proofs.Common.{◌∙◌, ap, sym, [], ◌∷◌, length, arith}
+use Rattle.std.proofs.Common.{ℕ, ◌∙◌, ap, sym, subst, List, [], ◌∷◌, length, arith}
+use Rattle.lt_texts.specs.CommandPlaces.{NextPlaced}
+use Rattle.lt_commands.specs.Views.{command_of}
 use Rattle.lt_commands.specs.declared.note.Note.TheVariants.{Begin}
 use Rattle.lt_commands.specs.Making.{command_made}
 use Rattle.lt_script.specs.declared.reading.Next.TheVariants.{Begins, Other, BadByte as NoByte, BadChar as NoChar}
@@ -24,8 +26,9 @@ unreachable-requires c =
 pub returns-then-not-is_header-clause-command : goal.returns-then-not-is_header-clause-command
 returns-then-not-is_header-clause-command c =
     let n : SaysNext (form_of c.args.opening.now c.args.allowed) c.parts.lexer c.next_head.new.lexer (Begins c.in-Begins.head c.in-Begins.from) = rw c.in-Begins.is at c.in_ok-next_head.ensures.next in
-    next_placed (form_of c.args.opening.now c.args.allowed) c.args.lexer.now c.parts.lexer c.next_head.new.lexer c.read.new.lexer c.in-Begins.head c.in-Begins.from c.in-Ok.behind.to c.in-Ok.ensures.read.0 c.in-Ok.behind.places.items c.command.result c.in-Some.command
-    c.parts.invariant.past n c.in-Ok.ensures.read.1 (sym c.is_header.ensures ∙ c.if-not-is_header.true) (c.command.ensures ∙ ap (command_made c.in-Begins.head) c.in-Ok.ensures.read.2) c.in-Some.is c.in-Ok.ensures.read.3
+    subst (λ (z : List ℕ). NextPlaced (form_of c.args.opening.now c.args.allowed) c.args.lexer.now (command_of c.in-Some.command) c.in-Begins.from z c.in-Ok.behind.to c.read.new.lexer) (sym c.from_vec-lines.ensures)
+    (next_placed (form_of c.args.opening.now c.args.allowed) c.args.lexer.now c.parts.lexer c.next_head.new.lexer c.read.new.lexer c.in-Begins.head c.in-Begins.from c.in-Ok.behind.to c.in-Ok.ensures.read.0 c.in-Ok.behind.places.items c.command.result c.in-Some.command
+    c.parts.invariant.past n c.in-Ok.ensures.read.1 (sym c.is_header.ensures ∙ c.if-not-is_header.true) (c.command.ensures ∙ ap (command_made c.in-Begins.head) c.in-Ok.ensures.read.2) c.in-Some.is c.in-Ok.ensures.read.3)
 
 pub returns-then-not-is_header-clause-shorter : goal.returns-then-not-is_header-clause-shorter
 returns-then-not-is_header-clause-shorter c =
