@@ -21,7 +21,7 @@ use Rattle.lt_grammar.specs.Rows.{Text, Texts, From, FromAll, given, given_all, 
 use Rattle.lt_grammar.specs.Table.{rule_row, item_row, lemma_parts, command_row}
 use Rattle.lt_grammar.specs.RowTexts.{row_meaning, LineText, line, rule_of_text, PartText, header, item, lemma, command}
 use Rattle.lt_commands.specs.declared.note.Note.{Note}
-use Rattle.lt_commands.specs.declared.note.Note.TheVariants.{TypeOpen, TypeClose, KeepType, ConstantName, Arguments, FreeName, FreeClose, LambdaName, LambdaClose, Apply, KeepTerm, Parameter, KeepParameters, BeginLine, EndLine, Begin}
+use Rattle.lt_commands.specs.declared.note.Note.TheVariants.{TypeOpen, TypeClose, KeepType, ConstantName, Arguments, FreeName, FreeClose, LambdaName, LambdaClose, Apply, KeepTerm, Parameter, KeepParameters, BeginLine, EndLine}
 use Rattle.lt_commands.specs.Notes.{type_notes, types_notes, later_notes, arguments_notes, term_notes, terms_notes, parameters_notes, part_notes, parts_notes, lines_notes, text_notes, head_of_text, meant_by}
 use Rattle.lt_commands.specs.Sinks.{kept_by}
 use Rattle.lt_commands.specs.Making.{Made, nothing, closed, with_growing, keep_type, Meaning, Meanings, given_meaning, given_meanings, both, pop, pops, applied_if, make_row, with_line, put, put_all, as_item, command_made}
@@ -382,13 +382,13 @@ ready-nothing = record { forming = refl; growing = refl; params = refl; sharing 
 pub text_makes : (p : PartText) → command_made (head_of_text p) (put_all (text_notes p []) nothing) ≡ meant_by p
 text_makes header = refl
 text_makes (item w ts) =
-    ap (λ (z : Made). command_made (AnItem w) z) (parts-make false (item_row w).parts ts (Begin (AnItem w) ∷ []) nothing (item-fits w) ready-nothing)
+    ap (λ (z : Made). command_made (AnItem w) z) (parts-make false (item_row w).parts ts [] nothing (item-fits w) ready-nothing)
     ∙ ap (λ v. as_item v.0) (row-makes (item_row w) ts nothing)
 text_makes (lemma l p lines) =
-    let parts : put_all (parts_notes lemma_parts (l, (tt, (p, tt))) (Begin Lemma ∷ [])) nothing ≡ pushed_parts lemma_parts (l, (tt, (p, tt))) nothing =
-    parts-make false lemma_parts (l, (tt, (p, tt))) (Begin Lemma ∷ []) nothing refl ready-nothing in
-    ap (command_made Lemma) (lines-make false lines (parts_notes lemma_parts (l, (tt, (p, tt))) (Begin Lemma ∷ [])) nothing (subst (IsReady false) (sym parts) (record { forming = refl; growing = refl; params = refl; sharing = refl }))
+    let parts : put_all (parts_notes lemma_parts (l, (tt, (p, tt))) []) nothing ≡ pushed_parts lemma_parts (l, (tt, (p, tt))) nothing =
+    parts-make false lemma_parts (l, (tt, (p, tt))) [] nothing refl ready-nothing in
+    ap (command_made Lemma) (lines-make false lines (parts_notes lemma_parts (l, (tt, (p, tt))) []) nothing (subst (IsReady false) (sym parts) (record { forming = refl; growing = refl; params = refl; sharing = refl }))
     ∙ ap (with_lines lines) parts)
 text_makes (command w ts) =
-    ap (λ (z : Made). command_made (ACommand w) z) (parts-make false (command_row w).parts ts (Begin (ACommand w) ∷ []) nothing (further-fits w) ready-nothing)
+    ap (λ (z : Made). command_made (ACommand w) z) (parts-make false (command_row w).parts ts [] nothing (further-fits w) ready-nothing)
     ∙ ap (λ v. v.0) (row-makes (command_row w) ts nothing)

@@ -257,7 +257,6 @@ impl Maker {
                 Ok(())
             }
             Note::EndLine(rule) => self.end_line(alloc, rule),
-            Note::Begin(_) => Ok(()),
         }
     }
 }

@@ -18,7 +18,6 @@ use Rattle.lt_grammar.specs.Words.{head_of}
 use Rattle.lt_texts.specs.Forms.{Form}
 use Rattle.lt_script.specs.declared.symbol.Symbol.{Symbol}
 use Rattle.lt_commands.specs.declared.note.Note.{Note}
-use Rattle.lt_commands.specs.declared.note.Note.TheVariants.{Begin as begin}
 use Rattle.lt_script.specs.declared.read_error.ReadError.{ReadError}
 use Rattle.lt_script.specs.declared.read_error.ReadError.TheVariants.{BadHeader, BadCommand, Syntax, BadByte, BadChar, Memory}
 use Rattle.lt_script.specs.Machine.{Move, step_on, step_part, part_move, State, state, onward, run, expected}
@@ -98,12 +97,12 @@ module _ (h : Form) where
 
   head-by : (s s' : Left) (c : Chars) (t : Placed) (k : Head) → Past h s s' → lexed s' ≡ One t → a_name c ≡ lexeme t.kind (spelling s') → head_of h c ≡ Some k
       → ((s'' : Left) → length s''.ahead ≤ length (after s').ahead → Past h s s'' → Stands s) → Stands s
-  head-by s s' c t k p e q g later = by (comes (expected h.number k) (begin k ∷ []) (call_of k) (after s'))
+  head-by s s' c t k p e q g later = by (comes (expected h.number k) [] (call_of k) (after s'))
     where
       n : IsNextLexeme s' (a_name c)
       n = record { placed = t; found = e; same = q }
 
-      by : Comes (expected h.number k) (begin k ∷ []) (call_of k) (after s') → Stands s
+      by : Comes (expected h.number k) [] (call_of k) (after s') → Stands s
       by (inl (b, s'', r)) =
           let part = reads_part h s' s'' c k b n g r in
           read-by s s' s'' part.0 p part.1 part.2 (later s'' (spans_no_longer (after s') r.0 s'' r.1))

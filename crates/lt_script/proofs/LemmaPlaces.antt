@@ -36,7 +36,7 @@ use Rattle.lt_grammar.proofs.Distinct.{rule_found}
 use Rattle.lt_grammar.proofs.RowPieces.{lines_written, sentence_written}
 use Rattle.lt_grammar.proofs.Splits.{parts_splits}
 use Rattle.lt_commands.specs.declared.note.Note.{Note}
-use Rattle.lt_commands.specs.declared.note.Note.TheVariants.{BeginLine as begin_line, EndLine as end_line, Begin as begin}
+use Rattle.lt_commands.specs.declared.note.Note.TheVariants.{BeginLine as begin_line, EndLine as end_line}
 use Rattle.lt_commands.specs.Notes.{parts_notes}
 use Rattle.lt_script.specs.declared.symbol.Symbol.{Symbol}
 use Rattle.lt_script.specs.declared.symbol.Symbol.TheVariants.{Part as APartOf, Lines, EndLine}

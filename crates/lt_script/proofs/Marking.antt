@@ -13,7 +13,7 @@ use Rattle.lt_grammar.specs.declared.words.Part.TheVariants.{Label, Number, Vari
 use Rattle.lt_grammar.specs.declared.words.RuleWord.{RuleWord}
 use Rattle.lt_grammar.specs.Words.{rule_of}
 use Rattle.lt_commands.specs.declared.note.Note.{Note}
-use Rattle.lt_commands.specs.declared.note.Note.TheVariants.{TypeVar, TypeAlone, TypeOpen, TypeClose, KeepType, ConstantName, NoArguments, Arguments, Bound, FreeName, FreeClose, LambdaName, LambdaClose, Apply, KeepTerm, Label as ALabel, Count, Variable as AVariable, Parameter, KeepParameters, BeginLine, EndLine, Begin}
+use Rattle.lt_commands.specs.declared.note.Note.TheVariants.{TypeVar, TypeAlone, TypeOpen, TypeClose, KeepType, ConstantName, NoArguments, Arguments, Bound, FreeName, FreeClose, LambdaName, LambdaClose, Apply, KeepTerm, Label as ALabel, Count, Variable as AVariable, Parameter, KeepParameters, BeginLine, EndLine}
 use Rattle.lt_script.specs.declared.symbol.Symbol.{Symbol}
 use Rattle.lt_script.specs.declared.symbol.Symbol.TheVariants.{«Type», Constructor, MoreTypes, Term, Inside, Brackets, Arguments as MoreArguments, MoreTerms, BoundName, FreeName as AFreeName, CloseFree, LambdaName as ALambdaName, Body, CloseLambda, KeepType as AKeepType, KeepTerm as AKeepTerm, Part as APartOf, HeaderNumber, Lines, EndLine as AnEndLine}
 use Rattle.lt_script.specs.Machine.{Move, go, under, step_type, step_term, step_more_types, step_more_terms, step_inside, is_fixed, is_number, line_move, step, step_on, passed, State, state, onward, run}

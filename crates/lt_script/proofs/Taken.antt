@@ -23,7 +23,7 @@ use Rattle.lt_grammar.proofs.OneWay.{IsClear, term_clear, terms_clear, parts_cle
 use Rattle.lt_script.specs.declared.symbol.Symbol.{Symbol}
 use Rattle.lt_script.specs.declared.symbol.Symbol.TheVariants.{«Type», MoreTypes, Term, Inside, Brackets, Arguments, MoreTerms, CloseFree, Body, CloseLambda, KeepType, KeepTerm, Part as APartOf, Lines, EndLine, HeaderNumber}
 use Rattle.lt_commands.specs.declared.note.Note.{Note}
-use Rattle.lt_commands.specs.declared.note.Note.TheVariants.{TypeOpen as type_open, TypeClose as type_close, KeepType as keep_type, ConstantName as constant_name, NoArguments as no_arguments, Arguments as arguments, FreeName as free_name, LambdaName as lambda_name, Apply as apply, KeepTerm as keep_term, Parameter as parameter, BeginLine as begin_line, EndLine as end_line, Begin as begin}
+use Rattle.lt_commands.specs.declared.note.Note.TheVariants.{TypeOpen as type_open, TypeClose as type_close, KeepType as keep_type, ConstantName as constant_name, NoArguments as no_arguments, Arguments as arguments, FreeName as free_name, LambdaName as lambda_name, Apply as apply, KeepTerm as keep_term, Parameter as parameter, BeginLine as begin_line, EndLine as end_line}
 use Rattle.lt_commands.specs.Notes.{type_notes, types_notes, later_notes, arguments_notes, term_notes, terms_notes, parameters_notes, part_notes, parts_notes, lines_notes, text_notes}
 use Rattle.lt_script.specs.Machine.{Move, go, under, semicolon, line_move, expected, part_move, step_part, header_move, step_header, or_pass, step_on, State, state, onward, run}
 
@@ -240,7 +240,7 @@ first_run first [] = Some (state (Lines ∷ []) [])
 first_run first (w ∷ ws) = onward (first w) (λ m. run m.pushed m.made ws)
 
 begun-part : (h : Form) (k : Head) (ws : List Lexeme) → IsHead h k
-    → first_run (step_part h) (a_name (head_word h k) ∷ ws) ≡ run (expected h.number k) (begin k ∷ []) ws
+    → first_run (step_part h) (a_name (head_word h k) ∷ ws) ≡ run (expected h.number k) [] ws
 begun-part h k ws m =
     ap (λ (o : Option Head). onward (part_move h.number o) (λ m. run m.pushed m.made ws)) (head_found h k m)
 
@@ -248,21 +248,21 @@ pub takes_text : (h : Form) (p : PartText) (rest : List Lexeme) → MayStand h p
     → first_run (step_part h) (text_lexemes h p rest) ≡ run [] (text_notes p []) rest
 takes_text h header rest m =
     begun-part h Header (number h.number ∷ a_sign kinds.Semicolon ∷ rest) tt
-    ∙ takes_number h.number (semicolon ∷ []) (begin Header ∷ []) (a_sign kinds.Semicolon ∷ rest)
+    ∙ takes_number h.number (semicolon ∷ []) [] (a_sign kinds.Semicolon ∷ rest)
 takes_text h (item w ts) rest m =
     begun-part h (Item w) (parts_lexemes (item_row w).parts ts (a_sign kinds.Semicolon ∷ rest)) m
-    ∙ takes_parts (item_row w).parts ts (semicolon ∷ []) (begin (Item w) ∷ []) (a_sign kinds.Semicolon ∷ rest) tt
+    ∙ takes_parts (item_row w).parts ts (semicolon ∷ []) [] (a_sign kinds.Semicolon ∷ rest) tt
 takes_text h (lemma l p lines) rest m =
     begun-part h Lemma (parts_lexemes lemma_parts (l, (tt, (p, tt))) (a_sign kinds.OpenBrace ∷ lines_lexemes lines (a_sign kinds.CloseBrace ∷ a_sign kinds.Semicolon ∷ rest))) m
-    ∙ takes_parts lemma_parts (l, (tt, (p, tt))) (APartOf (Exactly signs.OpenBrace) ∷ Lines ∷ semicolon ∷ []) (begin Lemma ∷ [])
+    ∙ takes_parts lemma_parts (l, (tt, (p, tt))) (APartOf (Exactly signs.OpenBrace) ∷ Lines ∷ semicolon ∷ []) []
     (a_sign kinds.OpenBrace ∷ lines_lexemes lines (a_sign kinds.CloseBrace ∷ a_sign kinds.Semicolon ∷ rest)) tt
-    ∙ takes_lines lines (semicolon ∷ []) (parts_notes lemma_parts (l, (tt, (p, tt))) (begin Lemma ∷ [])) (a_sign kinds.Semicolon ∷ rest)
+    ∙ takes_lines lines (semicolon ∷ []) (parts_notes lemma_parts (l, (tt, (p, tt))) []) (a_sign kinds.Semicolon ∷ rest)
 takes_text h (command w ts) rest m =
     begun-part h (Command w) (parts_lexemes (command_row w).parts ts (a_sign kinds.Semicolon ∷ rest)) m
-    ∙ takes_parts (command_row w).parts ts (semicolon ∷ []) (begin (Command w) ∷ []) (a_sign kinds.Semicolon ∷ rest) tt
+    ∙ takes_parts (command_row w).parts ts (semicolon ∷ []) [] (a_sign kinds.Semicolon ∷ rest) tt
 
 pub takes_header : (h : Form) (rest : List Lexeme)
-    → first_run (step_header h) (text_lexemes h header rest) ≡ run [] (begin Header ∷ []) rest
+    → first_run (step_header h) (text_lexemes h header rest) ≡ run [] [] rest
 takes_header h rest =
     ap (λ (o : Option Head). onward (header_move h.number o) (λ m. run m.pushed m.made (number h.number ∷ a_sign kinds.Semicolon ∷ rest))) (head_found h Header tt)
-    ∙ takes_number h.number (semicolon ∷ []) (begin Header ∷ []) (a_sign kinds.Semicolon ∷ rest)
+    ∙ takes_number h.number (semicolon ∷ []) [] (a_sign kinds.Semicolon ∷ rest)

@@ -5,7 +5,6 @@ ghost use Rattle.lt_texts.specs.Slices.{IsSlice, bytes_of};
 ghost use Rattle.lt_texts.specs.Spelling.{is_spelt, is_type_variable};
 ghost use Rattle.lt_texts.specs.Texts.{here};
 ghost use Rattle.lt_commands.specs.declared.note.Note.{Note};
-ghost use Rattle.lt_commands.specs.declared.note.Note.TheVariants.{Begin};
 ghost use Rattle.lt_commands.specs.Making.{nothing, put_all};
 ghost use Rattle.lt_commands.specs.Views.{made_of};
 ghost use Rattle.lt_script.specs.Machine.{meant, expected};
@@ -93,10 +92,10 @@ pub(crate) fn read(
 ) -> Result<Behind, ReadError>
     requires { end ≡ length lexer.old.source }
     ensures read { IfOk result (λ r. (b : List Note)
-        × ReadsLines (expected number head) (Begin head ∷ []) lexer.old b r.places.items lexer.new
+        × ReadsLines (expected number head) [] lexer.old b r.places.items lexer.new
         × (made_of r.maker ≡ put_all b nothing) × (r.to ≡ here lexer.new)) }
     ensures wrong { IfErr result
-        (λ e. IsStopped (expected number head) (Begin head ∷ []) (call_of head) lexer.old e) }
+        (λ e. IsStopped (expected number head) [] (call_of head) lexer.old e) }
 {
     let mut stack = Vec::new(alloc);
     let mut maker = Maker::new(alloc);
