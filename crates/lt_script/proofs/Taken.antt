@@ -88,18 +88,18 @@ mutual
       ∙ takes_type t (MoreTypes ∷ s) b (types_lexemes ts (a_sign kinds.Close ∷ rest))
       ∙ takes_types ts s (type_notes t b) rest
 
-takes-later : (ts : TypeTrees) (s : List Symbol) (b : List Note) (rest : List Lexeme)
+pub takes_later : (ts : TypeTrees) (s : List Symbol) (b : List Note) (rest : List Lexeme)
     → run (Arguments ∷ s) b (types_lexemes ts (a_sign kinds.CloseSquare ∷ rest)) ≡ run s (arguments ∷ keep_type ∷ later_notes ts b) rest
-takes-later no_types s b rest = refl
-takes-later (type_and t ts) s b rest =
+takes_later no_types s b rest = refl
+takes_later (type_and t ts) s b rest =
     more-arguments t s b (types_lexemes ts (a_sign kinds.CloseSquare ∷ rest))
     ∙ takes_type t (Arguments ∷ s) (keep_type ∷ b) (types_lexemes ts (a_sign kinds.CloseSquare ∷ rest))
-    ∙ takes-later ts s (type_notes t (keep_type ∷ b)) rest
+    ∙ takes_later ts s (type_notes t (keep_type ∷ b)) rest
 
 takes-arguments : (ts : List TypeTree) (s : List Symbol) (b : List Note) (rest : List Lexeme) → IsClear rest → run (Brackets ∷ s) b (arguments_lexemes ts rest) ≡ run s (arguments_notes ts b) rest
 takes-arguments [] s b rest c = no_brackets s b rest c
 takes-arguments (t ∷ ts) s b rest c =
-    takes_type t (Arguments ∷ s) b (types_lexemes (row ts) (a_sign kinds.CloseSquare ∷ rest)) ∙ takes-later (row ts) s (type_notes t b) rest
+    takes_type t (Arguments ∷ s) b (types_lexemes (row ts) (a_sign kinds.CloseSquare ∷ rest)) ∙ takes_later (row ts) s (type_notes t b) rest
 
 -- ---- terms
 
@@ -161,6 +161,28 @@ mutual
       more-terms t s b (terms_lexemes more (a_sign kinds.Close ∷ rest))
       ∙ takes_term t (MoreTerms ∷ s) (apply ∷ b) (terms_lexemes more (a_sign kinds.Close ∷ rest)) (terms_clear more (a_sign kinds.Close ∷ rest) tt)
       ∙ takes_terms more s (term_notes t (apply ∷ b)) rest
+
+-- a term that nothing behind it goes on
+abbrev pub IsClosed : TermText → Type 0
+IsClosed (word c []) = ⊥
+IsClosed t = Unit {0}
+
+pub takes_closed : (t : TermText) (s : List Symbol) (b : List Note) (rest : List Lexeme) → IsClosed t → run (Term ∷ s) b (term_lexemes t rest) ≡ run s (term_notes t b) rest
+takes_closed (word c []) s b rest k = absurd k
+takes_closed (word c (t ∷ ts)) s b rest k =
+    takes_type t (Arguments ∷ s) (constant_name c ∷ b) (types_lexemes (row ts) (a_sign kinds.CloseSquare ∷ rest))
+    ∙ takes_later (row ts) s (type_notes t (constant_name c ∷ b)) rest
+takes_closed (bound x) s b rest k = refl
+takes_closed (free x ty) s b rest k = takes_type ty (CloseFree ∷ s) (free_name x ∷ b) (a_sign kinds.Close ∷ rest)
+takes_closed (lambda x ty t) s b rest k =
+    takes_type ty (Body ∷ CloseLambda ∷ s) (lambda_name x ∷ b) (term_lexemes t (a_sign kinds.Close ∷ rest))
+    ∙ body t (CloseLambda ∷ s) (type_notes ty (lambda_name x ∷ b)) (a_sign kinds.Close ∷ rest)
+    ∙ takes_term t (CloseLambda ∷ s) (keep_type ∷ type_notes ty (lambda_name x ∷ b)) (a_sign kinds.Close ∷ rest) tt
+takes_closed (applied f a more) s b rest k =
+    inside f s b (term_lexemes a (terms_lexemes more (a_sign kinds.Close ∷ rest)))
+    ∙ takes_term f (Term ∷ MoreTerms ∷ s) b (term_lexemes a (terms_lexemes more (a_sign kinds.Close ∷ rest))) (term_clear a (terms_lexemes more (a_sign kinds.Close ∷ rest)))
+    ∙ takes_term a (MoreTerms ∷ s) (term_notes f b) (terms_lexemes more (a_sign kinds.Close ∷ rest)) (terms_clear more (a_sign kinds.Close ∷ rest) tt)
+    ∙ takes_terms more s (term_notes a (term_notes f b)) rest
 
 -- ---- rows
 
