@@ -392,3 +392,11 @@ text_makes (lemma l p lines) =
 text_makes (command w ts) =
     ap (λ (z : Made). command_made (ACommand w) z) (parts-make false (command_row w).parts ts [] nothing (further-fits w) ready-nothing)
     ∙ ap (λ v. v.0) (row-makes (command_row w) ts nothing)
+
+-- ---- types and terms alone
+
+pub type_alone : (t : TypeTree) → (pop AType (put KeepType (put_all (type_notes t []) nothing))).0 ≡ Some t
+type_alone t = ap (λ (z : Made). (pop AType (put KeepType z)).0) (type-makes t [] nothing)
+
+pub term_alone : (x : TermText) → (pop AStatement (put KeepTerm (put_all (term_notes x []) nothing))).0 ≡ Some (term_of_text x)
+term_alone x = ap (λ (z : Made). (pop AStatement (put KeepTerm z)).0) (term-makes x [] nothing refl)

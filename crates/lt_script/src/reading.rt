@@ -1,5 +1,5 @@
 //! Reads what begins a sentence, and what stands behind its word.
-ghost use Rattle.std.specs.Prelude.{◌≡◌, [], ◌∷◌, List, IfOk, IfErr, true, length, chars, drop};
+ghost use Rattle.std.specs.Prelude.{◌≡◌, [], List, reverse, IfOk, IfErr, true, length, chars, drop};
 ghost use Rattle.lt_texts.specs.Lexemes.{lexeme};
 ghost use Rattle.lt_texts.specs.Slices.{IsSlice, bytes_of};
 ghost use Rattle.lt_texts.specs.Spelling.{is_spelt, is_type_variable};
@@ -10,12 +10,13 @@ ghost use Rattle.lt_commands.specs.Views.{made_of};
 ghost use Rattle.lt_script.specs.Machine.{meant, expected};
 ghost use Rattle.lt_script.specs.Marks.{ReadsLines};
 ghost use Rattle.lt_script.specs.Openings.{form_of};
-ghost use Rattle.lt_script.specs.Stops.{IsStopped, SaysNext, Heads, call_of};
+ghost use Rattle.lt_script.specs.Stops.{IsWaiting, IsStopped, SaysNext, Heads, call_of};
 
 use crate::expecting::expect_head;
 use crate::form::{Allowed, Opening};
 use crate::known_words::KnownWords;
 use crate::read_error::ReadError;
+use crate::symbol::Symbol;
 use crate::table::head_of;
 use crate::taking::take;
 use crate::word::Word;
@@ -98,9 +99,30 @@ pub(crate) fn read(
         (λ e. IsStopped (expected number head) [] (call_of head) lexer.old e) }
 {
     let mut stack = Vec::new(alloc);
+    expect_head(&mut stack, number, head)?;
+    read_from(alloc, words, lexer, end, stack, head)
+}
+
+/// What stands next, from a stack of expectations on. A wrong place is called by the head.
+pub(crate) fn read_from(
+    alloc: Global,
+    words: &mut KnownWords,
+    lexer: &mut Lexer<'_>,
+    end: usize,
+    symbols: Vec<Symbol>,
+    head: Head,
+) -> Result<Behind, ReadError>
+    requires end { end ≡ length lexer.old.source }
+    requires waits { IsWaiting (reverse symbols.items) }
+    ensures read { IfOk result (λ r. (b : List Note)
+        × ReadsLines (reverse symbols.items) [] lexer.old b r.places.items lexer.new
+        × (made_of r.maker ≡ put_all b nothing) × (r.to ≡ here lexer.new)) }
+    ensures wrong { IfErr result
+        (λ e. IsStopped (reverse symbols.items) [] (call_of head) lexer.old e) }
+{
+    let mut stack = symbols;
     let mut maker = Maker::new(alloc);
     let mut places = Vec::new(alloc);
-    expect_head(&mut stack, number, head)?;
     'words: loop {
         let token = match lexer.next_token() {
             Lexed::Token(token) => token,
