@@ -1,7 +1,7 @@
 //! Reads a type or a term alone.
 ghost use Rattle.std.specs.Prelude.{◌≡◌, length, IfOk, IfErr};
 ghost use Rattle.lt_texts.specs.WrongPlaces.{IsTypeAt, IsTermAt};
-ghost use Rattle.lt_script.specs.Alone.{MakesTerm, is_brackets, StandsOpen};
+ghost use Rattle.lt_script.specs.TermsAlone.{MakesTerm, is_brackets, StandsOpen};
 ghost use Rattle.lt_script.specs.Promises.{RefusesType, RefusesTerm};
 ghost use Rattle.lt_commands.specs.Views.{made_of};
 
