@@ -62,7 +62,7 @@ module _ (s0 : List Symbol) (b0 : List Note) where
   abbrev pub Comes : Left → Left → List Symbol → List Note → Type 0
   Comes s s' st b = (ws : List Lexeme) × Spans s ws s' × (run s0 b0 ws ≡ Some (state st b))
 
-  pub comes_on : (s s' s'' : Left) (st st' : List Symbol) (b b' : List Note) (t : Token) (w : Lexeme) (y : Bool)
+  abbrev pub comes_on : (s s' s'' : Left) (st st' : List Symbol) (b b' : List Note) (t : Token) (w : Lexeme) (y : Bool)
       → Came s0 b0 s s' st b → One t ≡ lexed s' → s'' ≡ after s' → w ≡ lexeme t.kind (spelling s') → y ≡ true → Takes y (step_on st w) st' b b'
       → Comes s s'' st' b'
   comes_on s s' s'' st st' b b' t w y (ws, spans, e, waits) f g k q m = (
@@ -75,17 +75,17 @@ module _ (s0 : List Symbol) (b0 : List Note) where
   waits [] n e h = absurd (omega arith)
   waits (x ∷ st) n e h = tt
 
-  pub came_on : (s s' : Left) (st : List Symbol) (b : List Note) → Comes s s' st b → 0 < length st → Came s0 b0 s s' st b
+  abbrev pub came_on : (s s' : Left) (st : List Symbol) (b : List Note) → Comes s s' st b → 0 < length st → Came s0 b0 s s' st b
   came_on s s' st b (ws, spans, e) some = (ws, spans, e, waits st (length st) refl some)
 
   no-symbols : (st : List Symbol) → length st ≡ 0 → st ≡ []
   no-symbols [] e = refl
   no-symbols (x ∷ st) e = absurd (omega (arith, e))
 
-  pub came_to : (s s' : Left) (st : List Symbol) (b : List Note) → Comes s s' st b → length st ≡ 0 → Reads s0 b0 s b s'
+  abbrev pub came_to : (s s' : Left) (st : List Symbol) (b : List Note) → Comes s s' st b → length st ≡ 0 → Reads s0 b0 s b s'
   came_to s s' st b (ws, spans, e) none = (ws, spans, e ∙ ap (λ (z : List Symbol). Some (state z b)) (no-symbols st none))
 
-  pub came_first : (s : Left) (st : List Symbol) (b : List Note) → st ≡ s0 → b ≡ b0 → IsWaiting s0 → Came s0 b0 s s st b
+  abbrev pub came_first : (s : Left) (st : List Symbol) (b : List Note) → st ≡ s0 → b ≡ b0 → IsWaiting s0 → Came s0 b0 s s st b
   came_first s st b e f w = ([], refl, λ i. Some (state (sym e i) (sym f i)), subst IsWaiting (sym e) w)
 
   -- ---- the ways to stop

@@ -106,6 +106,10 @@ module _ (h : Form) where
   at_end s (ps, s', a, e, n) =
       (map sentence_of ps, headers_again ps a, s', (texts_lexemes form ps [], rows_written form ps, spans_reads s (texts_lexemes form ps []) s' e), subst (Shows s') n (lexed_shown s'))
 
+  pub header_stands : (s s' : Left) → Spans s (text_lexemes form header []) s' → Stands s (header_text form) s'
+  header_stands s s' e =
+      (text_lexemes form header [], sentence_written form header [], spans_reads s (text_lexemes form header []) s' e)
+
   -- ---- what is wrong
 
   -- what goes on to the rest of a text behind headers

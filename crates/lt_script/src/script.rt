@@ -10,10 +10,10 @@ ghost use Rattle.lt_script.specs.Promises.{Refuses, RefusesHeader};
 ghost use Rattle.lt_script.specs.Scripts.{Begun, begun_of, form_in, headed};
 ghost use Rattle.lt_script.specs.declared.form.Allowed.TheVariants as kinds;
 
-use crate::form::{Allowed, Opening};
+use crate::form::{Allowed, Opening, no_opening};
 use crate::known_words::KnownWords;
 use crate::read_error::ReadError;
-use crate::sentences::{next_spanned, read_header};
+use crate::sentences::{next_command, open_header};
 use crate::spanned::Spanned;
 use lt_lex::Lexer;
 use std::alloc::Global;
@@ -50,10 +50,7 @@ impl<'a> Script<'a> {
         Script {
             lexer: Lexer::new(text),
             end: text.len(),
-            opening: Opening {
-                word: String::new(alloc),
-                number: 0,
-            },
+            opening: no_opening(alloc),
             words: KnownWords::new(alloc),
         }
     }
@@ -75,7 +72,7 @@ impl<'a> Script<'a> {
             number,
         };
         let mut lexer = self.lexer.copy();
-        match read_header(alloc, &mut self.words, &mut lexer, self.end, &opening) {
+        match open_header(alloc, &mut self.words, &mut lexer, self.end, &opening) {
             Ok(()) => {
                 self.lexer = lexer;
                 self.opening = opening;
@@ -141,7 +138,7 @@ impl<'a> Script<'a> {
         ensures err { OnErr result (self.new ≡ self.old) }
     {
         let mut lexer = self.lexer.copy();
-        match next_spanned(
+        match next_command(
             alloc,
             &mut self.words,
             &mut lexer,

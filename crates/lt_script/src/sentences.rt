@@ -3,7 +3,10 @@ ghost use Rattle.std.specs.Prelude.{◌≡◌, ◌<◌, ⊤, List, [], length, I
 ghost use Rattle.lt_definitions.specs.Types.{Chars};
 ghost use Rattle.lt_grammar.specs.RowTexts.{header, text_lexemes};
 ghost use Rattle.lt_texts.specs.CommandPlaces.{NextPlaced};
+ghost use Rattle.lt_texts.specs.Forms.{header_text};
 ghost use Rattle.lt_texts.specs.Lexemes.{Spans};
+ghost use Rattle.lt_texts.specs.WrongPlaces as texts;
+ghost use Rattle.lt_script.specs.Promises.{Refuses, RefusesHeader};
 ghost use Rattle.lt_commands.specs.Views.{command_of};
 ghost use Rattle.lt_script.specs.Openings.{form_of, opened, word_of, is_opening};
 ghost use Rattle.lt_script.specs.Machine.{meant};
@@ -25,7 +28,7 @@ use std::alloc::Global;
 
 /// The next command, or None at the text's end, by the rows of the table. Headers before it are
 /// passed over. `end` is the text's length.
-pub(crate) fn next_spanned(
+fn next_spanned(
     alloc: Global,
     words: &mut KnownWords,
     lexer: &mut Lexer<'_>,
@@ -73,7 +76,7 @@ pub(crate) fn next_spanned(
 }
 
 /// Reads a header. `end` is the text's length.
-pub(crate) fn read_header(
+fn read_header(
     alloc: Global,
     words: &mut KnownWords,
     lexer: &mut Lexer<'_>,
@@ -100,6 +103,44 @@ pub(crate) fn read_header(
         Ok(_behind) => return Ok(()),
         Err(error) => return Err(error),
     }
+}
+
+/// The next command behind headers, or None at the text's end. `end` is the text's length.
+pub(crate) fn next_command(
+    alloc: Global,
+    words: &mut KnownWords,
+    lexer: &mut Lexer<'_>,
+    end: usize,
+    opening: &Opening,
+    allowed: Allowed,
+) -> Result<Option<Spanned>, ReadError>
+    requires { end ≡ length lexer.old.source }
+    ensures command { IfOk result
+        (λ o. MatchOption o (texts.AtEnd (form_of opening.now allowed) lexer.old)
+        (λ d. NextPlaced (form_of opening.now allowed) lexer.old
+            (command_of d.command) d.from d.lines d.to lexer.new)) }
+    ensures shorter { IfOk result (λ o. MatchOption o ⊤
+        (λ d. length lexer.new.ahead < length lexer.old.ahead)) }
+    ensures wrong { IfErr result (λ e. Refuses (form_of opening.now allowed) lexer.old e) }
+{
+    next_spanned(alloc, words, lexer, end, opening, allowed)
+}
+
+/// The header with this word and number. `end` is the text's length.
+pub(crate) fn open_header(
+    alloc: Global,
+    words: &mut KnownWords,
+    lexer: &mut Lexer<'_>,
+    end: usize,
+    opening: &Opening,
+) -> Result<(), ReadError>
+    requires { end ≡ length lexer.old.source }
+    ensures header { IfOk result (λ _. (commands : List Chars) → texts.Stands lexer.old
+        (header_text (opened opening.now commands)) lexer.new) }
+    ensures wrong { IfErr result (λ e. (commands : List Chars)
+        → RefusesHeader (opened opening.now commands) lexer.old e) }
+{
+    read_header(alloc, words, lexer, end, opening)
 }
 
 /// Whether it is the word of the header.
