@@ -43,16 +43,16 @@ spans_no_longer s (w ∷ ws) s' (n, e) =
     let here : length (after s).ahead < length s.ahead = token_shortens s (subst IsToken (sym n.found) tt) in
     omega arith
 
-spans-snoc : (s s' : Left) (ws : List Lexeme) (w : Lexeme) → Spans s ws s' → IsNextLexeme s' w → Spans s (ws ++ w ∷ []) (after s')
+pub spans-snoc : (s s' : Left) (ws : List Lexeme) (w : Lexeme) → Spans s ws s' → IsNextLexeme s' w → Spans s (ws ++ w ∷ []) (after s')
 spans-snoc s s' [] w e n = (subst (λ (x : Left). IsNextLexeme x w) e n, ap after e)
 spans-snoc s s' (v ∷ ws) w (m, e) n = (m, spans-snoc (after s) s' ws w e n)
 
 module _ (s0 : List Symbol) (b0 : List Note) where
-  run-one : (ws : List Lexeme) (w : Lexeme) (st : List Symbol) (b : List Note) → run s0 b0 ws ≡ Some (state st b)
+  pub run-one : (ws : List Lexeme) (w : Lexeme) (st : List Symbol) (b : List Note) → run s0 b0 ws ≡ Some (state st b)
       → run s0 b0 (ws ++ w ∷ []) ≡ onward (step_on st w) (λ m. Some (state m.pushed (m.made ++ b)))
   run-one ws w st b e = run_behind s0 b0 ws (w ∷ []) (state st b) e
 
-  run-by : (o : Option Move) (st : List Symbol) (b b' : List Note) (y : Bool) → y ≡ true → Takes y o st b b'
+  pub run-by : (o : Option Move) (st : List Symbol) (b b' : List Note) (y : Bool) → y ≡ true → Takes y o st b b'
       → onward o (λ m. Some (state m.pushed (m.made ++ b))) ≡ Some (state st b')
   run-by (Some m) st b b' true q (e, f) = λ i. Some (state (sym e i) (sym f i))
   run-by None st b b' true q h = absurd h
@@ -71,14 +71,14 @@ module _ (s0 : List Symbol) (b0 : List Note) where
     run-one ws w st b e ∙ run-by (step_on st w) st' b b' y q m,
   )
 
-  waits : (st : List Symbol) (n : ℕ) → length st ≡ n → 0 < n → IsWaiting st
+  pub waits : (st : List Symbol) (n : ℕ) → length st ≡ n → 0 < n → IsWaiting st
   waits [] n e h = absurd (omega arith)
   waits (x ∷ st) n e h = tt
 
   abbrev pub came_on : (s s' : Left) (st : List Symbol) (b : List Note) → Comes s s' st b → 0 < length st → Came s0 b0 s s' st b
   came_on s s' st b (ws, spans, e) some = (ws, spans, e, waits st (length st) refl some)
 
-  no-symbols : (st : List Symbol) → length st ≡ 0 → st ≡ []
+  pub no-symbols : (st : List Symbol) → length st ≡ 0 → st ≡ []
   no-symbols [] e = refl
   no-symbols (x ∷ st) e = absurd (omega (arith, e))
 

@@ -21,8 +21,8 @@ begun (BeginLine w ∷ b) = suc (begun b)
 begun (n ∷ b) = begun b
 
 begun-append : (xs ys : List Note) → begun (xs ++ ys) ≡ begun xs + begun ys
-begun-append [] ys = refl
-begun-append (BeginLine w ∷ xs) ys = ap suc (begun-append xs ys)
+begun-append [] ys = omega arith
+begun-append (BeginLine w ∷ xs) ys = omega (arith, begun-append xs ys)
 begun-append (n ∷ xs) ys = begun-append xs ys
 
 none-begun : (b : List Note) → begun b ≡ 0 → has_begin b ≡ false
@@ -36,28 +36,31 @@ no-fewer [] st b m e = let same : begun b ≡ begun m.made = ap notes e in omega
     notes : Option State → ℕ
     notes None = 0
     notes (Some m) = begun m.made
-no-fewer (w ∷ ws) st b m e = by (step_on st w) e
+no-fewer (w ∷ ws) st b m e = by (step_on st w) e (λ k. no-fewer ws k.pushed (k.made ++ b) m)
   where
-    by : (o : Option Move) → onward o (λ k. run k.pushed (k.made ++ b) ws) ≡ Some m → begun b ≤ begun m.made
-    by None e = absurd (cc e)
-    by (Some k) e =
-        let more : begun (k.made ++ b) ≤ begun m.made = no-fewer ws k.pushed (k.made ++ b) m e in
+    by : (o : Option Move) → onward o (λ k. run k.pushed (k.made ++ b) ws) ≡ Some m
+        → ((k : Move) → run k.pushed (k.made ++ b) ws ≡ Some m → begun (k.made ++ b) ≤ begun m.made) → begun b ≤ begun m.made
+    by None e later = absurd (cc e)
+    by (Some k) e later =
+        let more : begun (k.made ++ b) ≤ begun m.made = later k e in
         omega (arith, more, begun-append k.made b)
 
 -- where as many lines have begun as before, none begins on the way
 pub none_marked : (ws : List Lexeme) (st : List Symbol) (b : List Note) (s : Left) (m : State) → run st b ws ≡ Some m → begun m.made ≡ begun b → marks st s ws ≡ []
 none_marked [] st b s m e q = refl
-none_marked (w ∷ ws) st b s m e q = by (step_on st w) e
+none_marked (w ∷ ws) st b s m e q = by (step_on st w) e (λ k. none_marked ws k.pushed (k.made ++ b) (after s) m)
   where
-    by : (o : Option Move) → onward o (λ k. run k.pushed (k.made ++ b) ws) ≡ Some m → marked (begins_by o) (token_place (lexed s)) ++ marks (stack_by o) (after s) ws ≡ []
-    by None e = absurd (cc e)
-    by (Some k) e =
+    by : (o : Option Move) → onward o (λ k. run k.pushed (k.made ++ b) ws) ≡ Some m
+        → ((k : Move) → run k.pushed (k.made ++ b) ws ≡ Some m → begun m.made ≡ begun (k.made ++ b) → marks k.pushed (after s) ws ≡ [])
+        → marked (begins_by o) (token_place (lexed s)) ++ marks (stack_by o) (after s) ws ≡ []
+    by None e later = absurd (cc e)
+    by (Some k) e later =
         let more : begun (k.made ++ b) ≤ begun m.made = no-fewer ws k.pushed (k.made ++ b) m e in
         let sum : begun (k.made ++ b) ≡ begun k.made + begun b = begun-append k.made b in
         let none : begun k.made ≡ 0 = omega (arith, more, sum, q) in
         let same : begun m.made ≡ begun (k.made ++ b) = omega (arith, sum, q, none) in
         ap (λ (y : Bool). marked y (token_place (lexed s)) ++ marks k.pushed (after s) ws) (none-begun k.made none)
-        ∙ none_marked ws k.pushed (k.made ++ b) (after s) m e same
+        ∙ later k e same
 
 mutual
   type-begun : (t : TypeTree) (b : List Note) → begun (type_notes t b) ≡ begun b

@@ -113,10 +113,10 @@ lines-found (line w ts ∷ lines) st rest s s' e =
 -- ---- commands
 
 module _ (h : Form) where
-  head-lexemes : Chars → TermText → List Lexeme
+  abbrev head-lexemes : Chars → TermText → List Lexeme
   head-lexemes l p = parts_lexemes lemma_parts (l, (tt, (p, tt))) (a_sign kinds.OpenBrace ∷ [])
 
-  tail-lexemes : List LineText → List Lexeme
+  abbrev tail-lexemes : List LineText → List Lexeme
   tail-lexemes lines = lines_lexemes lines (a_sign kinds.CloseBrace ∷ a_sign kinds.Semicolon ∷ [])
 
   lemma-splits : (l : Chars) (p : TermText) (lines : List LineText)

@@ -137,12 +137,14 @@ marks_snoc [] w st st' b b' s s' f e =
     stack-of None = []
     stack-of (Some m) = m.stack
 marks_snoc (v ∷ ws) w st st' b b' s s' (n, f) e =
-    marks-by (begins_by (step_on st v)) (token_place (lexed s)) _ _ _ (by (step_on st v) e)
+    marks-by (begins_by (step_on st v)) (token_place (lexed s)) _ _ _ (by (step_on st v) e (λ m. marks_snoc ws w m.pushed st' (m.made ++ b) b' (after s) s' f))
   where
     by : (o : Option Move) → onward o (λ m. run m.pushed (m.made ++ b) ws) ≡ Some (state st' b')
+        → ((m : Move) → run m.pushed (m.made ++ b) ws ≡ Some (state st' b')
+        → marks m.pushed (after s) (ws ++ w ∷ []) ≡ marks m.pushed (after s) ws ++ marked (begins_by (step_on st' w)) (token_place (lexed s')))
         → marks (stack_by o) (after s) (ws ++ w ∷ []) ≡ marks (stack_by o) (after s) ws ++ marked (begins_by (step_on st' w)) (token_place (lexed s'))
-    by None e = absurd (cc e)
-    by (Some m) e = marks_snoc ws w m.pushed st' (m.made ++ b) b' (after s) s' f e
+    by None e later = absurd (cc e)
+    by (Some m) e later = later m e
 
 -- one list of lexemes behind another
 pub marks_append : (xs ys : List Lexeme) (st st' : List Symbol) (b b' : List Note) (s s' : Left) → Spans s xs s' → run st b xs ≡ Some (state st' b')
@@ -153,9 +155,11 @@ marks_append [] ys st st' b b' s s' f e = λ i. marks (ap stack-of e i) (sym f i
     stack-of None = []
     stack-of (Some m) = m.stack
 marks_append (v ∷ xs) ys st st' b b' s s' (n, f) e =
-    marks-by (begins_by (step_on st v)) (token_place (lexed s)) _ _ _ (by (step_on st v) e)
+    marks-by (begins_by (step_on st v)) (token_place (lexed s)) _ _ _ (by (step_on st v) e (λ m. marks_append xs ys m.pushed st' (m.made ++ b) b' (after s) s' f))
   where
     by : (o : Option Move) → onward o (λ m. run m.pushed (m.made ++ b) xs) ≡ Some (state st' b')
+        → ((m : Move) → run m.pushed (m.made ++ b) xs ≡ Some (state st' b')
+        → marks m.pushed (after s) (xs ++ ys) ≡ marks m.pushed (after s) xs ++ marks st' s' ys)
         → marks (stack_by o) (after s) (xs ++ ys) ≡ marks (stack_by o) (after s) xs ++ marks st' s' ys
-    by None e = absurd (cc e)
-    by (Some m) e = marks_append xs ys m.pushed st' (m.made ++ b) b' (after s) s' f e
+    by None e later = absurd (cc e)
+    by (Some m) e later = later m e

@@ -250,9 +250,9 @@ is-number : (k n : ℕ) (y : Bool) → (n == k) ≡ y → Back (HeaderNumber k) 
 is-number k n true q s us m e l = (us, ap (λ (i : ℕ). number i ∷ us) (eqb-true n k q), l)
 is-number k n false q s us m e l = absurd (cc e)
 
-back-number : (k : ℕ) (w : Lexeme) → Back (HeaderNumber k) w (step_header_number k w)
-back-number k (a_number (Some n)) = is-number k n (n == k) refl
-back-number k _ = λ s us m e l. absurd (cc e)
+back-header-number : (k : ℕ) (w : Lexeme) → Back (HeaderNumber k) w (step_header_number k w)
+back-header-number k (a_number (Some n)) = is-number k n (n == k) refl
+back-header-number k _ = λ s us m e l. absurd (cc e)
 
 lined : (c : Chars) (o : Option RuleWord) → rule_of c ≡ o → Back Lines (a_name c) (line_move o)
 lined c None q s us m e l = absurd (cc e)
@@ -332,7 +332,7 @@ back CloseLambda w = back-close-lambda w
 back KeepType w = λ s us m e l. absurd (cc e)
 back KeepTerm w = λ s us m e l. absurd (cc e)
 back (APartOf p) w = back-part-of p w
-back (HeaderNumber n) w = back-number n w
+back (HeaderNumber n) w = back-header-number n w
 back Lines w = back-lines w
 back (EndLine r) w = back-end-line r w
 

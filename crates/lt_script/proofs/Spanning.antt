@@ -9,13 +9,15 @@ use Rattle.lt_definitions.specs.Types.{Chars}
 use Rattle.lt_texts.specs.Texts.{Left, lexed, after, here}
 use Rattle.lt_texts.specs.Lexemes.{Lexeme, a_name, IsNextLexeme, Spans}
 use Rattle.lt_texts.specs.Commands as commands
+use Rattle.lt_texts.specs.Writing.{term_of_text}
+use Rattle.lt_definitions.specs.Items.{lemma_item}
 use Rattle.lt_texts.specs.Forms.{Form, a_command, sentence_text, IsAllowed}
 use Rattle.lt_texts.specs.WrongPlaces as texts
 use Rattle.lt_texts.specs.WrongPlaces.{Stands}
 use Rattle.lt_texts.specs.CommandPlaces.{IsFirstPlace, CommandAt, NextPlaced}
 use Rattle.lt_texts.proofs.Readings.{next_found, spans_reads}
 use Rattle.lt_grammar.specs.declared.words.Head.{Head}
-use Rattle.lt_grammar.specs.RowTexts.{PartText, header, item, lemma, command, text_lexemes, texts_lexemes, MayStand, sentence_of, row_meaning}
+use Rattle.lt_grammar.specs.RowTexts.{PartText, header, item, lemma, command, text_lexemes, texts_lexemes, MayStand, sentence_of, row_meaning, rule_of_text}
 use Rattle.lt_grammar.specs.Table.{item_row, command_row}
 use Rattle.lt_grammar.proofs.RowPieces.{sentence_written, may_allowed}
 use Rattle.lt_commands.specs.declared.note.Note.{Note}
@@ -74,7 +76,7 @@ module _ (h : Form) where
       let none = no-lines (item v ts) k b ws (after s) places (parts_begun (item_row v).parts ts []) e r q in
       subst (λ (z : commands.Command). IsAllowed h (a_command z) × CommandAt h s z places s') same (may_allowed h (item v ts) m, item_at h v ts s s' places none w)
   placed (lemma l t lines) k c d b ws s s' places n kk made e f g r q w m =
-      let same : commands.item_command _ ≡ command_of d = cc made in
+      let same : commands.item_command (lemma_item l (term_of_text t) (map rule_of_text lines)) ≡ command_of d = cc made in
       subst (λ (z : commands.Command). IsAllowed h (a_command z) × CommandAt h s z places s') same
       (may_allowed h (lemma l t lines) m, lemma_at h l t lines s s' ws places c f g (q ∙ ap (λ (j : Head). marks (expected h.number j) (after s) ws) kk))
   placed (command v ts) k c d b ws s s' places n kk made e f g r q w m =

@@ -1,6 +1,6 @@
 -- What is said by rows and by what a lexer finds is what the definitions of texts say.
 use Rattle.std.proofs.Common.{◌≡◌, ℕ, ◌∙◌, ap, sym, refl, subst, inl, inr, Bool, true, false, List, [], ◌∷◌, ◌++◌, length, append_assoc}
-use Rattle.std.specs.Prelude.{◌⊎◌, map, if◌then◌else◌, bytes_eq, ◌&&◌, not}
+use Rattle.std.specs.Prelude.{◌⊎◌, codes, map, if◌then◌else◌, bytes_eq, ◌&&◌, not}
 use Rattle.std.proofs.lemmas.Bool.{and_parts}
 use Rattle.std.proofs.lemmas.Slice.Eq.{bytes_eq-Decides}
 use Rattle.lt_texts.specs.declared.lexical.Token.{Token as Placed}
@@ -12,14 +12,17 @@ use Rattle.lt_texts.specs.Tokens.{Scanned}
 use Rattle.lt_texts.specs.Texts.{Left, left_of, lexed, spelling, place_of}
 use Rattle.lt_texts.specs.Lexemes.{Lexeme, a_name, lexeme, Spans}
 use Rattle.lt_texts.specs.Reading.{IsNextToken, Shows, Reads}
-use Rattle.lt_texts.specs.Commands.{Command}
+use Rattle.lt_texts.specs.Commands.{Command, item_command}
+use Rattle.lt_texts.specs.Writing.{term_of_text}
+use Rattle.lt_definitions.specs.Items.{lemma_item}
+use Rattle.lt_grammar.specs.Table.{item_row, command_row}
 use Rattle.lt_texts.specs.Pieces.{AreWritten}
 use Rattle.lt_texts.specs.Forms.{Form, may_stand, Sentence, header_again, a_command, header_text, sentence_text, sentences_text, IsAllowed, AreAllowed}
 use Rattle.lt_texts.specs.WrongPlaces as texts
 use Rattle.lt_texts.specs.WrongPlaces.{Wrong, Stands, IsStop}
 use Rattle.lt_texts.proofs.Readings.{next_found, lexed_shown, spans_reads}
 use Rattle.lt_texts.proofs.ReadingOrder.{reads_split}
-use Rattle.lt_grammar.specs.RowTexts.{PartText, header, item, lemma, command, text_lexemes, texts_lexemes, MayStand, MayStandAll, sentence_of, commands_of}
+use Rattle.lt_grammar.specs.RowTexts.{row_meaning, rule_of_text, PartText, header, item, lemma, command, text_lexemes, texts_lexemes, MayStand, MayStandAll, sentence_of, commands_of}
 use Rattle.lt_grammar.specs.Words.{head_word}
 use Rattle.lt_grammar.proofs.RowReading.{head_of_part}
 use Rattle.lt_grammar.proofs.RowPieces.{join_written, split_written, sentence_written, written_sentence, may_allowed, allowed_may}
@@ -181,9 +184,15 @@ module _ (h : Form) where
       let first : a_name c ≡ a_name form.word = cc e in
       let same : c ≡ form.word = cc first in
       by-word (bytes_eq c h.word) n ∙ ap (λ (y : Bool). if y then texts.bad_header n else texts.bad_syntax n) (is-own c same)
-  calls-by (item v ts) (a_name c ∷ ws) w more m e n = by-command _ c _ ws n m (cc e)
-  calls-by (lemma l t lines) (a_name c ∷ ws) w more m e n = by-command _ c _ ws n m (cc e)
-  calls-by (command v ts) (a_name c ∷ ws) w more m e n = by-command _ c _ ws n m (cc e)
+  calls-by (item v ts) (a_name c ∷ ws) w more m e n =
+      let first : a_name c ≡ a_name (item_row v).word = cc e in
+      by-command (item_command (row_meaning (item_row v) ts)) c (item_row v).word ws n m first
+  calls-by (lemma l t lines) (a_name c ∷ ws) w more m e n =
+      let first : a_name c ≡ a_name (codes "lemma") = cc e in
+      by-command (item_command (lemma_item l (term_of_text t) (map rule_of_text lines))) c (codes "lemma") ws n m first
+  calls-by (command v ts) (a_name c ∷ ws) w more m e n =
+      let first : a_name c ≡ a_name (command_row v).word = cc e in
+      by-command (row_meaning (command_row v) ts) c (command_row v).word ws n m first
   calls-by header (_ ∷ ws) w more m e n = absurd (cc e)
   calls-by (item v ts) (_ ∷ ws) w more m e n = absurd (cc e)
   calls-by (lemma l t lines) (_ ∷ ws) w more m e n = absurd (cc e)
