@@ -257,7 +257,7 @@ impl Maker {
         let term = self.whole();
         let ty = self.whole_type();
         let label = self.newest_label();
-        Some(Line::Inst(label?, ty?, place?, number?))
+        Some(Line::Inst(label?, ty?, term?, number?))
     }
 
     fn tinst_line(&mut self) -> Option<Line>
