@@ -1,5 +1,5 @@
 //! Reads headers, and commands behind headers.
-ghost use Rattle.std.specs.Prelude.{◌≡◌, ◌<◌, ⊤, List, [], length, IfOk, IfErr, MatchOption};
+ghost use Rattle.std.specs.Prelude.{◌≡◌, ◌<◌, ⊤, List, [], length, IfOk, IfErr, OnOk, MatchOption};
 ghost use Rattle.lt_definitions.specs.Types.{Chars};
 ghost use Rattle.lt_grammar.specs.RowTexts.{header, text_lexemes};
 ghost use Rattle.lt_texts.specs.CommandPlaces.{NextPlaced};
@@ -43,6 +43,8 @@ fn next_spanned(
             (command_of d.command) d.from d.lines d.to lexer.new)) }
     ensures shorter { IfOk result (λ o. MatchOption o ⊤
         (λ d. length lexer.new.ahead < length lexer.old.ahead)) }
+    ensures source { IfOk result (λ o. MatchOption o ⊤
+        (λ d. end ≡ length lexer.new.source)) }
     ensures wrong { IfErr result (λ e. Fails (form_of opening.now allowed) lexer.old e) }
 {
     'parts: loop {
@@ -86,6 +88,7 @@ fn read_header(
     requires { end ≡ length lexer.old.source }
     ensures header { IfOk result (λ _. (commands : List Chars)
         → Spans lexer.old (text_lexemes (opened opening.now commands) header []) lexer.new) }
+    ensures source { OnOk result (end ≡ length lexer.new.source) }
     ensures wrong { IfErr result (λ e. (commands : List Chars)
         → HeaderFails (opened opening.now commands) lexer.old e) }
 {
@@ -121,6 +124,8 @@ pub(crate) fn next_command(
             (command_of d.command) d.from d.lines d.to lexer.new)) }
     ensures shorter { IfOk result (λ o. MatchOption o ⊤
         (λ d. length lexer.new.ahead < length lexer.old.ahead)) }
+    ensures source { IfOk result (λ o. MatchOption o ⊤
+        (λ d. end ≡ length lexer.new.source)) }
     ensures wrong { IfErr result (λ e. Refuses (form_of opening.now allowed) lexer.old e) }
 {
     next_spanned(alloc, words, lexer, end, opening, allowed)
@@ -137,6 +142,7 @@ pub(crate) fn open_header(
     requires { end ≡ length lexer.old.source }
     ensures header { IfOk result (λ _. (commands : List Chars) → texts.Stands lexer.old
         (header_text (opened opening.now commands)) lexer.new) }
+    ensures source { OnOk result (end ≡ length lexer.new.source) }
     ensures wrong { IfErr result (λ e. (commands : List Chars)
         → RefusesHeader (opened opening.now commands) lexer.old e) }
 {
