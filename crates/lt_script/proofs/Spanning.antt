@@ -87,6 +87,7 @@ module _ (h : Form) where
   pub next_placed : (s s' s'' s''' : Left) (k : Head) (from to : ℕ) (b : List Note) (places : List ℕ) (o : Option Command) (d : Command) → Past h s s' → SaysNext h s' s'' (Begins k from)
       → ReadsLines (expected h.number k) [] s'' b places s''' → is_header k ≡ false → option_map command_of o ≡ command_made k (put_all b nothing) → o ≡ Some d → to ≡ here s'''
       → NextPlaced h s (command_of d) from places to s'''
+  unfolding unmarked
   next_placed s s' s'' s''' k from to b places o d (ps, a, e) (c, t, f, q, g, i, j) r n made some there =
       let next : IsNextLexeme s' (a_name c) = record { placed = t; found = f; same = g } in
       let reads : ReadsLines (expected h.number k) [] (after s') b places s''' = subst (λ (x : Left). ReadsLines (expected h.number k) [] x b places s''') j r in
