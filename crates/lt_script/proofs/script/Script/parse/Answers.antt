@@ -7,7 +7,7 @@ use Rattle.lt_script.specs.Scripts.{Begun, form_in}
 use Rattle.lt_script.proofs.script.Script.parse.Goals as goal
 
 pub invariant_of-self : goal.invariant_of-self
-invariant_of-self c = c.in-Ok-Some.ensures.source
+invariant_of-self c = rw c.in-Ok-Some.field-0-is at c.in-Ok-Some.ensures.source
 
 pub returns-in-Err-clause-wrong : goal.returns-in-Err-clause-wrong
 returns-in-Err-clause-wrong c =
