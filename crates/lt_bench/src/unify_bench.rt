@@ -135,6 +135,17 @@ fn calls<R: Clock + Alloc<A = Global>>(
     Ok((b.mark(), start.elapsed(rt)?.as_micros()))
 }
 
+// Whether a variable that was bound to a constant is resolved to a thing without variables, and no thing contains itself.
+fn is_resolved<R: Clock + Alloc<A = Global>>(rt: &R) -> io::Result<bool> {
+    let alloc = rt.alloc();
+    let mut b = Bindings::new(alloc, 1).map_err(|_| AllocError)?;
+    let (variable, loop_of_it) = (leaf(alloc, 0, true), chain(alloc, 2, true)?);
+    let (is_cyclic, _) = unified(rt, &mut b, &variable, &loop_of_it)?;
+    unified(rt, &mut b, &variable, &leaf(alloc, 0, false))?;
+    let answer = b.resolve(alloc, &loop_of_it).map_err(|_| AllocError)?;
+    Ok(!is_cyclic && is_below(alloc, &answer, 0).map_err(|_| AllocError)?)
+}
+
 /// Terms of fifteen nodes, and eight variables.
 pub fn small<R: Print + Clock + Alloc<A = Global>>(rt: &R) -> io::Result<()> {
     let alloc = rt.alloc();
@@ -146,7 +157,10 @@ pub fn small<R: Print + Clock + Alloc<A = Global>>(rt: &R) -> io::Result<()> {
         balanced(alloc, 15, false)?,
     )?;
     let (bound, _) = calls(rt, 8, 4)?;
-    println!(rt; "unify: {chains} variable of two chains, {trees} of two trees, {bound} by calls")
+    let resolved = is_resolved(rt)?;
+    println!(rt;
+        "unify: {chains} variable of two chains, {trees} of two trees, {bound} by calls, resolved: {resolved}"
+    )
 }
 
 /// Two chains and two balanced trees, and calls that each bind one variable beside others.
