@@ -1,22 +1,12 @@
-//! One call of each public function of lt_types, lt_terms and lt_hol, with ample memory.
+//! One call, with ample memory, of each public function of lt_types, lt_terms, lt_hol and lt_syntax that may want memory and that no text reaches.
 #![tactic(auto)]
 
-#[cfg(test)]
-mod deep;
-#[cfg(test)]
-mod faults;
 #[cfg(test)]
 mod lines;
 #[cfg(test)]
 mod makers;
 #[cfg(test)]
-mod maps;
-#[cfg(test)]
-mod names;
-#[cfg(test)]
-mod signatures;
-#[cfg(test)]
-mod tables;
+mod printing;
 #[cfg(test)]
 mod terms;
 #[cfg(test)]

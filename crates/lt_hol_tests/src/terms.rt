@@ -1,52 +1,32 @@
 //! Terms, builders of terms, and the calls on terms.
-use crate::makers::{abstraction, bound, free, name, truth, variable};
+use crate::makers::{identity, name, truth, variable};
 use lt_hol::{
-    List, Term, TermBuilder, TermNode, TryCopy, Ty, TyMap, alpha_eq, binders, close_free, nodes,
-    open_binder, same_up_to_types, subst_free, term_instance,
+    List, Term, TermBuilder, TermNode, TryCopy, Ty, TyMap, alpha_eq, close_free, open_binder,
+    same_up_to_types, subst_free, term_instance,
 };
 use std::alloc::Global;
 use std::test::Fail;
 
-/// \x bool x, with a name for x.
-fn identity(alloc: Global, text: &str) -> Result<Term, Fail> {
-    abstraction(alloc, text, bound(alloc, text)?)
-}
-
-#[test]
-fn a_term_has_its_nodes_in_post_order(rt: HostRuntime) -> Result<(), Fail> {
-    let t = identity(rt.alloc(), "x")?;
-    assert_eq!(rt; (t.len(), t.nodes().len(), nodes(&t)), (2, 2, 3));
-    assert!(rt; matches!(t.node(1), TermNode::Lam(_, _, 0)));
-    assert_eq!(rt; binders(rt.alloc(), &t)?.len(), 2);
-    Ok(())
-}
-
-/// Whether a term is alpha-equal to its copy.
-fn is_its_copy(alloc: Global, t: &Term) -> Result<bool, Fail> {
-    Ok(alpha_eq(alloc, t, &t.copy(alloc)?)?)
-}
-
-/// Whether a term is alpha-equal to \y bool y.
+/// Whether a term is alpha-equal to the identity with another name.
 fn is_identity(alloc: Global, t: &Term) -> Result<bool, Fail> {
     Ok(alpha_eq(alloc, t, &identity(alloc, "y")?)?)
 }
 
 #[test]
 fn binders_are_compared_and_not_their_names(rt: HostRuntime) -> Result<(), Fail> {
-    let t = identity(rt.alloc(), "x")?;
+    let t = identity(rt.alloc(), "x")?.copy(rt.alloc())?;
     assert!(rt; is_identity(rt.alloc(), &t)?);
-    assert!(rt; is_its_copy(rt.alloc(), &t)?);
     Ok(())
 }
 
-/// The term that a builder makes of a name bound over it.
+/// The identity, of its parts.
 fn built(alloc: Global) -> Result<Term, Fail> {
     let builder = TermBuilder::new(alloc).bound(alloc, name(alloc, "x")?)?;
     let builder = builder.lam(alloc, name(alloc, "x")?, Ty::bool(alloc)?)?;
     Ok(builder.finish())
 }
 
-/// A constant applied to a variable, from their parts.
+/// A constant applied to a variable, of their parts.
 fn applied(alloc: Global) -> Result<Term, Fail> {
     let builder = TermBuilder::new(alloc).constant(alloc, name(alloc, "c")?, List::new(alloc))?;
     let builder = builder.free(alloc, name(alloc, "x")?, Ty::bool(alloc)?)?;
@@ -68,83 +48,67 @@ fn terms_are_built(rt: HostRuntime) -> Result<(), Fail> {
     let t = built(rt.alloc())?;
     assert!(rt; is_identity(rt.alloc(), &t)?);
     assert_eq!(rt; count(rt.alloc(), &t)?, 3);
-    Ok(())
-}
-
-#[test]
-fn an_application_is_built(rt: HostRuntime) -> Result<(), Fail> {
     assert_eq!(rt; applied(rt.alloc())?.len(), 3);
     Ok(())
 }
 
-/// Whether an abstraction is opened by a term to that term.
-fn opens(alloc: Global, t: &Term, by: &Term) -> Result<bool, Fail> {
-    match open_binder(alloc, t, by)? {
+/// How many nodes an application of two terms has, made of the terms themselves.
+fn joined(alloc: Global) -> Result<usize, Fail> {
+    let c = Term::constant(alloc, name(alloc, "c")?, List::new(alloc))?;
+    Ok(Term::app(alloc, c, truth(alloc, "x")?)?.len())
+}
+
+#[test]
+fn terms_are_joined(rt: HostRuntime) -> Result<(), Fail> {
+    assert_eq!(rt; joined(rt.alloc())?, 3);
+    Ok(())
+}
+
+/// Whether the identity is opened by a variable to that variable.
+fn opens(alloc: Global, by: &Term) -> Result<bool, Fail> {
+    match open_binder(alloc, &identity(alloc, "y")?, by)? {
         Some(opened) => Ok(alpha_eq(alloc, &opened, by)?),
         None => Ok(false),
     }
 }
 
-/// Whether the abstraction over x of type `bool` of a term is \y bool y.
-fn closes(alloc: Global, t: &Term, ty: &Ty) -> Result<bool, Fail> {
-    let closed = close_free(alloc, t, &name(alloc, "x")?, ty)?;
+/// Whether the abstraction over x of type `bool` of a term is the identity.
+fn closes(alloc: Global, t: &Term) -> Result<bool, Fail> {
+    let closed = close_free(alloc, t, &name(alloc, "x")?, &Ty::bool(alloc)?)?;
     is_identity(alloc, &closed)
 }
 
-#[test]
-fn an_abstraction_is_opened(rt: HostRuntime) -> Result<(), Fail> {
-    let t = identity(rt.alloc(), "y")?;
-    assert!(rt; opens(rt.alloc(), &t, &truth(rt.alloc(), "x")?)?);
-    Ok(())
-}
-
-#[test]
-fn a_variable_is_closed(rt: HostRuntime) -> Result<(), Fail> {
-    let x = truth(rt.alloc(), "x")?;
-    assert!(rt; closes(rt.alloc(), &x, &Ty::bool(rt.alloc())?)?);
-    Ok(())
-}
-
-/// Whether a term with another put for x of a type is that other one.
-fn becomes(alloc: Global, t: &Term, ty: &Ty, by: &Term) -> Result<bool, Fail> {
-    let put = subst_free(alloc, t, &name(alloc, "x")?, ty, by)?;
+/// Whether a term with a variable put for x of type `bool` is that variable.
+fn becomes(alloc: Global, t: &Term, by: &Term) -> Result<bool, Fail> {
+    let put = subst_free(alloc, t, &name(alloc, "x")?, &Ty::bool(alloc)?, by)?;
     Ok(alpha_eq(alloc, &put, by)?)
 }
 
-/// Whether y of a type can be put for x of that type.
-fn is_replaced(alloc: Global, ty: &Ty) -> Result<bool, Fail> {
-    let x = free(alloc, "x", ty.copy(alloc)?)?;
-    becomes(alloc, &x, ty, &free(alloc, "y", ty.copy(alloc)?)?)
-}
-
 #[test]
-fn one_variable_is_replaced(rt: HostRuntime) -> Result<(), Fail> {
-    assert!(rt; is_replaced(rt.alloc(), &Ty::bool(rt.alloc())?)?);
+fn a_variable_is_opened_closed_and_replaced(rt: HostRuntime) -> Result<(), Fail> {
+    let (x, y) = (truth(rt.alloc(), "x")?, truth(rt.alloc(), "y")?);
+    assert!(rt; opens(rt.alloc(), &y)?);
+    assert!(rt; closes(rt.alloc(), &x)?);
+    assert!(rt; becomes(rt.alloc(), &x, &y)?);
     Ok(())
 }
 
 /// A variable x of type 'a or the like.
 fn any(alloc: Global, text: &str) -> Result<Term, Fail> {
-    free(alloc, "x", variable(alloc, text)?)
+    Ok(Term::free(alloc, name(alloc, "x")?, variable(alloc, text)?)?)
 }
 
-/// The map from 'a to `bool`.
-fn to_bool(alloc: Global) -> Result<TyMap, Fail> {
+/// The term with `bool` put for 'a.
+fn at_bool(alloc: Global, t: &Term) -> Result<Term, Fail> {
     let mut map = TyMap::new(alloc);
     map.put(alloc, name(alloc, "a")?, Ty::bool(alloc)?)?;
-    Ok(map)
-}
-
-/// Whether a term with types put is x of type `bool`.
-fn is_truth(alloc: Global, t: &Term, map: &TyMap) -> Result<bool, Fail> {
-    let put = term_instance(alloc, t, map)?;
-    Ok(alpha_eq(alloc, &put, &truth(alloc, "x")?)?)
+    Ok(term_instance(alloc, t, &map)?)
 }
 
 #[test]
 fn types_are_put_into_a_term(rt: HostRuntime) -> Result<(), Fail> {
-    let map = to_bool(rt.alloc())?;
-    assert!(rt; is_truth(rt.alloc(), &any(rt.alloc(), "a")?, &map)?);
+    let put = at_bool(rt.alloc(), &any(rt.alloc(), "a")?)?;
+    assert!(rt; alpha_eq(rt.alloc(), &put, &truth(rt.alloc(), "x")?)?);
     Ok(())
 }
 

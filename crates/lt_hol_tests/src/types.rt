@@ -1,58 +1,73 @@
-//! Types, builders of types, and new type variables.
-use crate::makers::{constructor, function, name, one, variable};
-use lt_hol::{TryCopy, Ty, TyBuilder, TyNode, are_clear, long_names, longest, variables};
+//! Types, maps on type variables, matching, and new type variables.
+use crate::makers::{function, name, variable};
+use lt_hol::{
+    Name, TryCopy, Ty, TyBuilder, TyMap, long_names, longest, match_type, tsub, variables,
+};
 use std::alloc::Global;
 use std::test::Fail;
 
-#[test]
-fn a_type_has_its_nodes_in_post_order(rt: HostRuntime) -> Result<(), Fail> {
-    let ty = function(rt.alloc(), "a", "b")?;
-    assert_eq!(rt; (ty.len(), ty.nodes().len()), (3, 3));
-    assert_eq!(rt; (ty.node(0).arguments(), ty.node(2).arguments()), (0, 2));
-    assert!(rt; matches!(ty.node(1), TyNode::Var(b) if b.text() == "b"));
-    Ok(())
+/// The variables 'a and 'b.
+fn parts(alloc: Global) -> Result<TyBuilder, Fail> {
+    let builder = TyBuilder::new(alloc).var(alloc, name(alloc, "a")?)?;
+    Ok(builder.ty(alloc, &variable(alloc, "b")?)?)
 }
 
-/// The type that a builder makes of one that is given.
-fn rebuilt(alloc: Global, given: &Ty) -> Result<Ty, Fail> {
-    let builder = TyBuilder::new(alloc).ty(alloc, given)?;
+/// The last two types become those of a type of functions.
+fn joined(alloc: Global, builder: TyBuilder) -> Result<TyBuilder, Fail> {
+    if builder.len() < 2 {
+        return Err("too few types".into());
+    }
+    Ok(builder.con(alloc, name(alloc, "fun")?, 2)?)
+}
+
+/// The one type that was made.
+fn whole(alloc: Global, builder: TyBuilder) -> Result<Ty, Fail> {
+    if builder.len() != 1 {
+        return Err("not one type".into());
+    }
     Ok(builder.finish(alloc)?)
 }
 
 #[test]
-fn types_are_equal_as_trees(rt: HostRuntime) -> Result<(), Fail> {
-    let ty = function(rt.alloc(), "a", "b")?;
-    assert!(rt; ty == rebuilt(rt.alloc(), &ty.copy(rt.alloc())?)?);
-    assert!(rt; ty != function(rt.alloc(), "b", "a")?);
-    Ok(())
-}
-
-/// `list` of the last type of a builder that has one.
-fn list_of(alloc: Global, builder: TyBuilder) -> Result<TyBuilder, Fail> {
-    if builder.len() != 1 {
-        return Err("not one type".into());
-    }
-    Ok(builder.con(alloc, name(alloc, "list")?, 1)?)
-}
-
-#[test]
 fn types_are_built(rt: HostRuntime) -> Result<(), Fail> {
-    let builder = TyBuilder::new(rt.alloc()).var(rt.alloc(), name(rt.alloc(), "a")?)?;
-    assert_eq!(rt; list_of(rt.alloc(), builder)?.len(), 1);
+    let built = whole(rt.alloc(), joined(rt.alloc(), parts(rt.alloc())?)?)?;
+    assert!(rt; built == function(rt.alloc(), "a", "b")?);
     Ok(())
 }
 
-#[test]
-fn a_node_makes_a_type(rt: HostRuntime) -> Result<(), Fail> {
-    let node = TyNode::Var(name(rt.alloc(), "a")?);
-    let builder = TyBuilder::new(rt.alloc()).node(rt.alloc(), &node)?;
-    assert_eq!(rt; builder.len(), 1);
+/// Puts a type variable for another.
+fn put(alloc: Global, map: &mut TyMap, from: &str, to: &str) -> Result<(), Fail> {
+    map.put(alloc, name(alloc, from)?, variable(alloc, to)?)?;
     Ok(())
 }
 
+/// The map that exchanges 'a and 'b. The first type of 'a is replaced.
+fn exchange(alloc: Global) -> Result<TyMap, Fail> {
+    let mut map = TyMap::new(alloc);
+    put(alloc, &mut map, "a", "a")?;
+    put(alloc, &mut map, "a", "b")?;
+    put(alloc, &mut map, "b", "a")?;
+    Ok(map)
+}
+
 #[test]
-fn bool_is_a_constructor(rt: HostRuntime) -> Result<(), Fail> {
-    assert!(rt; Ty::bool(rt.alloc())? == constructor(rt.alloc(), "bool")?);
+fn types_are_put_all_at_once(rt: HostRuntime) -> Result<(), Fail> {
+    let map = exchange(rt.alloc())?.copy(rt.alloc())?;
+    let put = tsub(rt.alloc(), &function(rt.alloc(), "a", "b")?, &map)?;
+    assert!(rt; put == function(rt.alloc(), "b", "a")?);
+    Ok(())
+}
+
+/// Whether the type of functions from 'a to a variable has that from 'a to another as an instance.
+fn matches(alloc: Global, to: &str, other: &str) -> Result<bool, Fail> {
+    let pattern = function(alloc, "a", to)?;
+    Ok(match_type(alloc, &pattern, &function(alloc, "a", other)?)?.is_some())
+}
+
+#[test]
+fn a_pattern_matches_its_instances(rt: HostRuntime) -> Result<(), Fail> {
+    assert!(rt; matches(rt.alloc(), "b", "a")?);
+    assert!(rt; !matches(rt.alloc(), "a", "b")?);
     Ok(())
 }
 
@@ -60,16 +75,15 @@ fn bool_is_a_constructor(rt: HostRuntime) -> Result<(), Fail> {
 fn new_variables_are_longer(rt: HostRuntime) -> Result<(), Fail> {
     let names = long_names(rt.alloc(), 1, 2)?;
     let types = variables(rt.alloc(), names.as_slice())?;
-    assert_eq!(rt; types.len(), 2);
-    assert_eq!(rt; longest(names.as_slice(), types.as_slice()), 3);
-    assert!(rt; !are_clear(names.as_slice(), types.as_slice()));
+    assert_eq!(rt;
+        (types.len(), longest(names.as_slice(), types.as_slice())),
+        (2, 3)
+    );
     Ok(())
 }
 
 #[test]
-fn a_type_may_have_none_of_the_names(rt: HostRuntime) -> Result<(), Fail> {
-    let names = long_names(rt.alloc(), 1, 1)?;
-    let types = one(rt.alloc(), variable(rt.alloc(), "a")?)?;
-    assert!(rt; are_clear(names.as_slice(), types.as_slice()));
+fn a_letter_is_repeated(rt: HostRuntime) -> Result<(), Fail> {
+    assert_eq!(rt; Name::repeated(rt.alloc(), 'x', 2)?.text(), "xxx");
     Ok(())
 }

@@ -1,11 +1,11 @@
-//! The calls beside the rules.
+//! The calls beside the rules, and those of the stores that no rule makes.
 ghost use Rattle.std.specs.Prelude.{◌<◌, length, IfOk};
 
-use crate::lines::{declare_constant, declare_type, declared, put, same};
-use crate::machine::{name, parts, plain_type};
-use lt_hol::{Line, List, TyMap};
-use lt_kernel::{Proof, ProofMark, RuleFault, sure};
-use lt_store::{Id, PlainStore, TermStore, View};
+use crate::lines::{declared, put, same};
+use crate::terms::{name, term, ty};
+use lt_hol::{List, Term, TyMap, alpha_eq};
+use lt_kernel::{Proof, sure};
+use lt_store::{Id, PlainStore, TermStore, from_store, longest_free};
 use std::alloc::Global;
 use std::process::Abort;
 use std::test::Fail;
@@ -14,170 +14,55 @@ use std::test::Fail;
 fn id<S: TermStore>(alloc: Global, proof: &mut Proof<S>, text: &str) -> Result<Id, Fail>
     ensures { IfOk result (λ t. t < length proof.new.nodes) }
 {
-    let (_, term) = parts(alloc, text)?;
-    let made = put(alloc, proof, &term)?;
+    let made = put(alloc, proof, &term(alloc, text)?)?;
     Ok(made)
-}
-
-/// Names the constant `p`.
-fn state<S: TermStore>(
-    alloc: Global,
-    proof: &mut Proof<S>,
-    label: &str,
-) -> Result<Result<(), RuleFault>, Fail> {
-    let p = id(alloc, proof, "p")?;
-    let label = name(alloc, label)?;
-    Ok(proof.add_statement(alloc, label, p))
-}
-
-/// The line that cites a statement.
-fn cite<S: TermStore>(
-    alloc: Global,
-    proof: &mut Proof<S>,
-    label: &str,
-) -> Result<Result<usize, RuleFault>, Fail> {
-    let line = Line::Thm(name(alloc, label)?);
-    Ok(proof.apply(alloc, &line))
-}
-
-/// A line that cites a statement, and its number.
-fn cited_as_first<S: TermStore>(
-    alloc: Global,
-    rt: &impl Abort,
-    proof: &mut Proof<S>,
-) -> Result<(), Fail> {
-    let number = cite(alloc, proof, "l")??;
-    assert_eq!(rt; number, 1);
-    assert!(rt; matches!(proof.line(1), Some(Line::Thm(_))));
-    assert!(rt; proof.line(2).is_none());
-    Ok(())
-}
-
-/// Whether a label was refused.
-fn is_duplicate(answer: Result<(), RuleFault>) -> bool {
-    matches!(answer, Err(RuleFault::Duplicate(_)))
-}
-
-/// States the constant `p`. Its label is not taken again.
-fn stated<S: TermStore>(alloc: Global, rt: &impl Abort, proof: &mut Proof<S>) -> Result<(), Fail> {
-    state(alloc, proof, "l")??;
-    let again = state(alloc, proof, "l")?;
-    let is_refused = is_duplicate(again);
-    assert!(rt; is_refused);
-    Ok(())
-}
-
-#[test]
-fn lines_are_kept_until_they_are_cleared(rt: HostRuntime) -> Result<(), Fail> {
-    let alloc = rt.alloc();
-    let mut proof = declared(alloc, PlainStore::new(alloc))?;
-    clears(alloc, &rt, &mut proof)
-}
-
-/// Lines before and after they are cleared.
-fn clears<S: TermStore>(alloc: Global, rt: &impl Abort, proof: &mut Proof<S>) -> Result<(), Fail> {
-    stated(alloc, rt, proof)?;
-    cited_as_first(alloc, rt, proof)?;
-    proof.clear();
-    let is_none = proof.line(1).is_none();
-    assert!(rt; is_none);
-    cited_as_first(alloc, rt, proof)
-}
-
-/// What a mark cuts off: a type, a constant, a statement and a line.
-fn more<S: TermStore>(alloc: Global, rt: &impl Abort, proof: &mut Proof<S>) -> Result<(), Fail> {
-    declare_type(alloc, proof, "t")?;
-    declare_constant(alloc, proof, "c", "t")?;
-    state(alloc, proof, "k")??;
-    let number = cite(alloc, proof, "k")??;
-    assert_eq!(rt; number, 1);
-    Ok(())
-}
-
-/// Whether a type of the name is declared.
-fn has_type<S: TermStore>(alloc: Global, proof: &Proof<S>, text: &str) -> Result<bool, Fail> {
-    let name = name(alloc, text)?;
-    Ok(proof.signature().arity(&name).is_some())
-}
-
-/// Goes back to a mark after more was declared.
-fn more_and_back<S: TermStore>(
-    alloc: Global,
-    rt: &impl Abort,
-    proof: &mut Proof<S>,
-    mark: ProofMark,
-) -> Result<(), Fail> {
-    more(alloc, rt, proof)?;
-    let is_declared = has_type(alloc, proof, "t")?;
-    assert!(rt; is_declared && proof.mark() != mark);
-    proof.back(mark);
-    let is_left = has_type(alloc, proof, "t")?;
-    assert!(rt; !is_left && proof.mark() == mark);
-    assert!(rt; proof.line(1).is_none());
-    Ok(())
-}
-
-#[test]
-fn what_came_after_a_mark_goes(rt: HostRuntime) -> Result<(), Fail> {
-    let alloc = rt.alloc();
-    let mut proof = declared(alloc, PlainStore::new(alloc))?;
-    goes_back(alloc, &rt, &mut proof)
-}
-
-/// Goes back to a mark twice.
-fn goes_back<S: TermStore>(
-    alloc: Global,
-    rt: &impl Abort,
-    proof: &mut Proof<S>,
-) -> Result<(), Fail> {
-    stated(alloc, rt, proof)?;
-    let mark = proof.mark();
-    more_and_back(alloc, rt, proof, mark)?;
-    more_and_back(alloc, rt, proof, mark)?;
-    cited_as_first(alloc, rt, proof)
 }
 
 /// The identity on `bool`, node by node.
 fn identity<S: TermStore>(alloc: Global, rt: &impl Abort, store: &mut S) -> Result<Id, Fail> {
     let hole = store.mk_bound(alloc, 0)?;
     assert!(rt; hole < store.len());
-    let ty = plain_type(alloc, "bool")?;
-    Ok(store.mk_lam(alloc, ty, hole)?)
+    Ok(store.mk_lam(alloc, ty(alloc, b'B')?, hole)?)
 }
 
-/// The identity applied to a constant.
+/// The constant `p`.
+fn constant<S: TermStore>(alloc: Global, store: &mut S) -> Result<Id, Fail> {
+    Ok(store.mk_const(alloc, name(alloc, "p")?, List::new(alloc))?)
+}
+
+/// The identity applied to a constant, as a number of the store.
 fn redex<S: TermStore>(alloc: Global, rt: &impl Abort, store: &mut S) -> Result<Id, Fail> {
     let function = identity(alloc, rt, store)?;
-    let name = name(alloc, "p")?;
-    let argument = store.mk_const(alloc, name, List::new(alloc))?;
+    let argument = constant(alloc, store)?;
     assert!(rt; function < store.len() && argument < store.len());
     Ok(store.mk_app(alloc, function, argument)?)
-}
-
-/// A free variable, which is viewed as one.
-fn viewed<S: TermStore>(alloc: Global, rt: &impl Abort, proof: &mut Proof<S>) -> Result<(), Fail> {
-    let name = name(alloc, "x")?;
-    let ty = plain_type(alloc, "bool")?;
-    let x = proof.mk_free(alloc, name, ty)?;
-    assert!(rt; matches!(proof.view(x), View::Free(_, _)));
-    Ok(())
 }
 
 #[test]
 fn a_proof_is_a_store(rt: HostRuntime) -> Result<(), Fail> {
     let alloc = rt.alloc();
     let mut proof = declared(alloc, PlainStore::new(alloc))?;
-    stores(alloc, &rt, &mut proof)
+    stores(alloc, &rt, &mut proof)?;
+    measures(alloc, &rt, &mut proof)
 }
 
 /// The calls of a store at a proof.
 fn stores<S: TermStore>(alloc: Global, rt: &impl Abort, proof: &mut Proof<S>) -> Result<(), Fail> {
     let made = redex(alloc, rt, proof)?;
     let read = id(alloc, proof, "uBUp.")?;
-    let is = same(alloc, proof, made, read)?;
-    assert!(rt; is);
-    viewed(alloc, rt, proof)?;
-    assert_eq!(rt; proof.store().len(), proof.len());
+    assert!(rt; same(alloc, proof, made, read)?);
+    Ok(())
+}
+
+/// A variable, and the length of its name.
+fn measures<S: TermStore>(
+    alloc: Global,
+    rt: &impl Abort,
+    proof: &mut Proof<S>,
+) -> Result<(), Fail> {
+    let x = proof.mk_free(alloc, name(alloc, "long")?, ty(alloc, b'B')?)?;
+    assert!(rt; x < proof.len());
+    assert_eq!(rt; longest_free(alloc, proof, &[x])?, 4);
     Ok(())
 }
 
@@ -185,30 +70,28 @@ fn stores<S: TermStore>(alloc: Global, rt: &impl Abort, proof: &mut Proof<S>) ->
 fn a_proof_passes_over_its_own_terms(rt: HostRuntime) -> Result<(), Fail> {
     let alloc = rt.alloc();
     let mut proof = declared(alloc, PlainStore::new(alloc))?;
-    closes_and_opens(alloc, &rt, &mut proof)?;
+    opens(alloc, &rt, &mut proof)?;
+    closes(alloc, &rt, &mut proof)?;
     puts_types(alloc, &rt, &mut proof)
 }
 
-/// A variable that is closed and opened by a constant is that constant. Closed with its binder it is the identity.
-fn closes_and_opens<S: TermStore>(
-    alloc: Global,
-    rt: &impl Abort,
-    proof: &mut Proof<S>,
-) -> Result<(), Fail> {
+/// A variable that is closed and opened by a constant is that constant.
+fn opens<S: TermStore>(alloc: Global, rt: &impl Abort, proof: &mut Proof<S>) -> Result<(), Fail> {
     let x = id(alloc, proof, "Bx")?;
+    let body = proof.abstract_free(alloc, x, &name(alloc, "x")?, &ty(alloc, b'B')?)?;
     let p = id(alloc, proof, "p")?;
-    assert!(rt; x < proof.len() && p < proof.len());
-    let variable = name(alloc, "x")?;
-    let bool = plain_type(alloc, "bool")?;
-    let body = proof.abstract_free(alloc, x, &variable, &bool)?;
-    assert!(rt; p < proof.len());
+    assert!(rt; body < proof.len());
     let opened = proof.instantiate(alloc, body, p)?;
-    let is = same(alloc, proof, opened, p)?;
-    assert!(rt; is && x < proof.len());
-    let closed = proof.close(alloc, &variable, &bool, x)?;
+    assert!(rt; same(alloc, proof, opened, p)?);
+    Ok(())
+}
+
+/// A variable that is closed with its binder is the identity.
+fn closes<S: TermStore>(alloc: Global, rt: &impl Abort, proof: &mut Proof<S>) -> Result<(), Fail> {
+    let x = id(alloc, proof, "Bx")?;
+    let closed = proof.close(alloc, &name(alloc, "x")?, &ty(alloc, b'B')?, x)?;
     let wanted = id(alloc, proof, "uBU")?;
-    let is_identity = same(alloc, proof, closed, wanted)?;
-    assert!(rt; is_identity);
+    assert!(rt; same(alloc, proof, closed, wanted)?);
     Ok(())
 }
 
@@ -220,11 +103,10 @@ fn puts_types<S: TermStore>(
 ) -> Result<(), Fail> {
     let x = id(alloc, proof, "Ax")?;
     let mut by = TyMap::new(alloc);
-    by.put(alloc, name(alloc, "a")?, plain_type(alloc, "bool")?)?;
+    by.put(alloc, name(alloc, "a")?, ty(alloc, b'B')?)?;
     let made = proof.put_types(alloc, x, &by)?;
     let wanted = id(alloc, proof, "Bx")?;
-    let is = same(alloc, proof, made, wanted)?;
-    assert!(rt; is);
+    assert!(rt; same(alloc, proof, made, wanted)?);
     Ok(())
 }
 
@@ -237,13 +119,26 @@ fn a_sure_line_is_there(rt: HostRuntime) -> Result<(), Fail> {
 
 /// An equation, whose conclusion is looked at.
 fn is_sure<S: TermStore>(alloc: Global, rt: &impl Abort, proof: &mut Proof<S>) -> Result<(), Fail> {
-    let (_, term) = parts(alloc, "p")?;
-    let p = put(alloc, proof, &term)?;
+    let p = put(alloc, proof, &term(alloc, "p")?)?;
     let number = sure::refl(alloc, proof, p)?;
     let said = proof.conclusion(number);
-    let is_next = proof.is_line(number + 1);
     let wanted = id(alloc, proof, "B=p.p.")?;
-    let is = same(alloc, proof, said, wanted)?;
-    assert!(rt; is && !is_next);
+    assert!(rt; same(alloc, proof, said, wanted)?);
     Ok(())
+}
+
+#[test]
+fn a_term_goes_in_and_comes_out(rt: HostRuntime) -> Result<(), Fail> {
+    let alloc = rt.alloc();
+    let mut proof = declared(alloc, PlainStore::new(alloc))?;
+    let t = term(alloc, "uBU")?;
+    assert!(rt; alpha_eq(alloc, &taken_out(alloc, &mut proof, &t)?, &t)?);
+    Ok(())
+}
+
+/// A typed term, put into the store and taken out again.
+fn taken_out<S: TermStore>(alloc: Global, proof: &mut Proof<S>, t: &Term) -> Result<Term, Fail> {
+    let id = put(alloc, proof, t)?;
+    let back = from_store(alloc, &*proof, id)?;
+    Ok(back)
 }

@@ -1,4 +1,4 @@
-//! Tests of the kernel: derivations whose sequents and reasons were written out from the rules by hand.
+//! Tests of the kernel and of what stands below it: a derivation whose sequents were written out from the rules by hand, and each reason.
 #![tactic(auto)]
 
 #[cfg(test)]
@@ -8,6 +8,6 @@ mod derivation;
 #[cfg(test)]
 mod lines;
 #[cfg(test)]
-mod machine;
-#[cfg(test)]
 mod reasons;
+#[cfg(test)]
+mod terms;

@@ -5,16 +5,16 @@ ghost use Rattle.lt_nameless.specs.NamelessRules.{nameless_fault};
 ghost use Rattle.lt_store.specs.Typed.{IsTyped};
 ghost use Rattle.lt_store.specs.Trees.{tree_at};
 
-use crate::machine::{name, parts, plain_type, terms};
+use crate::terms::{name, term, ty};
 use lt_hol::{Name, Reason, Signature, Term, Ty};
 use lt_kernel::{Proof, RuleFault};
 use lt_store::{Id, TermStore};
 use std::alloc::Global;
 use std::test::Fail;
 
-/// A line of a derivation: its rule, its name, a text of its type and its term, and its earlier lines.
-/// What the rule doesn't ask for is left out of the text, or is not looked at.
-pub type Given<'a> = (&'a str, &'a str, &'a str, usize, usize);
+/// A line of a derivation: its rule, its name, the letter of its type, the text of its term, and its earlier lines.
+/// What the rule doesn't ask for is `_` or 0, and is not looked at.
+pub type Given<'a> = (&'a str, &'a str, u8, &'a str, usize, usize);
 
 /// A proof over the type `nat` and the constants `p`, `q`, `z` and `s`.
 pub fn declared<S: TermStore>(alloc: Global, store: S) -> Result<Proof<S>, Fail> {
@@ -25,49 +25,10 @@ pub fn declared<S: TermStore>(alloc: Global, store: S) -> Result<Proof<S>, Fail>
 }
 
 fn declare<S: TermStore>(alloc: Global, proof: &mut Proof<S>) -> Result<(), Fail> {
-    declare_type(alloc, proof, "nat")?;
-    declare_constant(alloc, proof, "p", "bool")?;
-    declare_constant(alloc, proof, "q", "bool")?;
-    declare_constant(alloc, proof, "z", "nat")?;
-    declare_function(alloc, proof, "s", "nat")
-}
-
-/// Declares a type without arguments.
-pub fn declare_type<S: TermStore>(
-    alloc: Global,
-    proof: &mut Proof<S>,
-    text: &str,
-) -> Result<(), Fail> {
-    let name = name(alloc, text)?;
-    proof.add_type(alloc, name, 0)?;
-    Ok(())
-}
-
-/// Declares a constant of a type without arguments.
-pub fn declare_constant<S: TermStore>(
-    alloc: Global,
-    proof: &mut Proof<S>,
-    text: &str,
-    of: &str,
-) -> Result<(), Fail> {
-    let name = name(alloc, text)?;
-    let ty = plain_type(alloc, of)?;
-    proof.add_const(alloc, name, ty)?;
-    Ok(())
-}
-
-/// Declares a function on a type without arguments.
-fn declare_function<S: TermStore>(
-    alloc: Global,
-    proof: &mut Proof<S>,
-    text: &str,
-    of: &str,
-) -> Result<(), Fail> {
-    let name = name(alloc, text)?;
-    let from = plain_type(alloc, of)?;
-    let to = plain_type(alloc, of)?;
-    let ty = Ty::fun(alloc, from, to)?;
-    proof.add_const(alloc, name, ty)?;
+    proof.add_type(alloc, name(alloc, "nat")?, 0)?;
+    for (text, of) in [("p", b'B'), ("q", b'B'), ("z", b'N'), ("s", b'F')] {
+        proof.add_const(alloc, name(alloc, text)?, ty(alloc, of)?)?;
+    }
     Ok(())
 }
 
@@ -87,25 +48,11 @@ pub fn derive<S: TermStore>(
     proof: &mut Proof<S>,
     given: Given<'_>,
 ) -> Result<Result<usize, RuleFault>, Fail> {
-    let (rule, text, words, i, j) = given;
-    let x = name(alloc, text)?;
-    let (ty, term) = parts(alloc, words)?;
-    derive_from(alloc, proof, rule, x, ty, &term, i, j)
-}
-
-fn derive_from<S: TermStore>(
-    alloc: Global,
-    proof: &mut Proof<S>,
-    rule: &str,
-    x: Name,
-    ty: Ty,
-    term: &Term,
-    i: usize,
-    j: usize,
-) -> Result<Result<usize, RuleFault>, Fail> {
-    let t = put(alloc, proof, term)?;
-    proof.signature().check_type(alloc, &ty)?;
-    Ok(call(alloc, proof, rule, x, ty, t, i, j))
+    let (rule, text, of, words, i, j) = given;
+    let t = put(alloc, proof, &term(alloc, words)?)?;
+    let of = ty(alloc, of)?;
+    proof.signature().check_type(alloc, &of)?;
+    Ok(call(alloc, proof, rule, name(alloc, text)?, of, t, i, j))
 }
 
 /// The call of a rule's name.
@@ -202,20 +149,21 @@ fn call_of_name<S: TermStore>(
     }
 }
 
-/// Whether a line has the hypotheses and, last, the conclusion of a text.
+/// Whether a line has the hypotheses and the conclusion of texts; an empty text is none.
 pub fn gives<S: TermStore>(
     alloc: Global,
     proof: &mut Proof<S>,
     number: usize,
-    text: &str,
+    hyps: &[&str],
+    concl: &str,
 ) -> Result<bool, Fail> {
     let mut ids = Vec::new(alloc);
-    for term in &terms(alloc, text)? {
-        ids.push(put(alloc, proof, term)?)?;
+    for text in hyps {
+        if !text.is_empty() {
+            ids.push(put(alloc, proof, &term(alloc, text)?)?)?;
+        }
     }
-    let Some(concl) = ids.pop() else {
-        return Err("no conclusion".into());
-    };
+    let concl = put(alloc, proof, &term(alloc, concl)?)?;
     is_sequent(alloc, proof, number, ids.as_slice(), concl)
 }
 

@@ -5,8 +5,6 @@ mod binders;
 mod items;
 mod pieces;
 mod terms;
-#[cfg(test)]
-mod tests;
 mod text;
 mod types;
 

@@ -11,6 +11,3 @@ mod theory;
 
 pub use fault::Fault;
 pub use theory::Theory;
-
-#[cfg(test)]
-mod tests;

@@ -1,7 +1,7 @@
 //! A file system with one long file that fails from a place on.
 ghost use Rattle.std.specs.Prelude.{IsErr};
 
-use super::LONG;
+use crate::system::LONG;
 use std::alloc::{Allocator, Global};
 use std::cell::Cell;
 use std::fs::{Metadata, OpenFile, OpenOptions};
@@ -11,13 +11,13 @@ use std::rt::Files;
 
 /// Each of its files has the bytes of `long_text`, and a read at or behind `fail_from` fails.
 #[derive(Drop)]
-pub(super) struct ScriptedFiles {
+pub(crate) struct ScriptedFiles {
     fail_from: Cell<usize>,
     opens: Cell<u32>,
 }
 
 impl ScriptedFiles {
-    pub(super) fn new(fail_from: usize) -> ScriptedFiles {
+    pub(crate) fn new(fail_from: usize) -> ScriptedFiles {
         ScriptedFiles {
             fail_from: Cell::new(fail_from),
             opens: Cell::new(0),
@@ -25,19 +25,19 @@ impl ScriptedFiles {
     }
 
     /// How often a file was opened.
-    pub(super) fn opens(&self) -> u32 {
+    pub(crate) fn opens(&self) -> u32 {
         self.opens.get()
     }
 
     /// From now on no read fails.
-    pub(super) fn heal(&self) {
+    pub(crate) fn heal(&self) {
         self.fail_from.set(usize::MAX);
     }
 }
 
 /// An open file: the place where it stands, and the place from which reads fail.
 #[derive(Drop)]
-pub(super) struct ScriptedFile {
+pub(crate) struct ScriptedFile {
     place: usize,
     fail_from: usize,
 }

@@ -1,6 +1,7 @@
 //! The adapters over real files, devices and pipes, and over a file that fails in mid-stream: what no
 //! contract can say of the system.
-use super::*;
+use crate::scripted::ScriptedFiles;
+use lt_io::{FileLibrary, Library, ReadFault, StdSink, read_all, write_all};
 use std::alloc::{AllocError, Global};
 use std::fs;
 use std::fs::File;
@@ -9,11 +10,8 @@ use std::os::fd::AsRawFd;
 use std::process::Abort;
 use std::test::Fail;
 
-mod scripted;
-
-use scripted::ScriptedFiles;
-
-const LONG: usize = 200_000;
+/// How many bytes the long text has.
+pub(crate) const LONG: usize = 200_000;
 
 /// A text whose pieces all differ: the byte at a place is the place's rest by 251.
 fn long_text(alloc: Global) -> Result<Vec<u8>, AllocError> {
