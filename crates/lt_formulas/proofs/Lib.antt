@@ -1,3 +1,4 @@
 pub mod Letters
 pub mod Hypotheses
 pub mod FunctionParts
+pub mod TypedTerms

@@ -6,7 +6,7 @@ ghost use Rattle.lt_store.specs.Trees.{tree_at};
 ghost use Rattle.lt_store.specs.Typed.{IsTyped};
 
 use lt_hol::{Memory, Signature, Ty};
-use lt_store::{Id, TermStore, type_at};
+use lt_store::{Id, TermStore, known_type};
 use std::alloc::Global;
 
 /// Whether a term without a fault has the type.
@@ -20,10 +20,8 @@ pub fn has_type<S: TermStore>(
     requires { IsTyped sig.now (S.nodes store.now) t }
     ensures { IfOk result (λ holds. holds ≡ nameless_has_type sig.now (tree_at (S.nodes store.now) t) ty.now) }
 {
-    match type_at(alloc, store, sig, t) {
-        Ok(found) => Ok(*ty == found),
-        Err(_) => Err(Memory),
-    }
+    let found = known_type(alloc, store, sig, t)?;
+    Ok(*ty == found)
 }
 
 /// Whether a term without a fault is boolean.
@@ -45,8 +43,6 @@ pub fn type_of<S: TermStore>(alloc: Global, store: &S, sig: &Signature, t: Id) -
     requires { IsTyped sig.now (S.nodes store.now) t }
     ensures { IfOk result (λ ty. ty ≡ nameless_type_of sig.now (tree_at (S.nodes store.now) t)) }
 {
-    match type_at(alloc, store, sig, t) {
-        Ok(ty) => Ok(ty),
-        Err(_) => Err(Memory),
-    }
+    let ty = known_type(alloc, store, sig, t)?;
+    Ok(ty)
 }

@@ -23,10 +23,10 @@ use Rattle.lt_grammar.proofs.Sentences.{one_sentence, sentence_goes_on, join_sen
 -- ---- sentences in a row, and the front of one behind them
 
 -- one sentence as a row of them
-one-row : (f : Form) (x : Sentence) (ws rest : List Lexeme) → AreWritten (sentence_text f x) ws rest → AreWritten (sentences_text f (x ∷ [])) ws rest
+pub one-row : (f : Form) (x : Sentence) (ws rest : List Lexeme) → AreWritten (sentence_text f x) ws rest → AreWritten (sentences_text f (x ∷ [])) ws rest
 one-row f x ws rest h = join_written (sentence_text f x) [] ws rest rest h refl
 
-headers-allowed : (f : Form) (xs : List Sentence) → AreHeaders xs → AreAllowed f xs
+pub headers-allowed : (f : Form) (xs : List Sentence) → AreHeaders xs → AreAllowed f xs
 headers-allowed f [] a = tt
 headers-allowed f (header_again ∷ xs) a = (tt, headers-allowed f xs a.1)
 headers-allowed f (a_command c ∷ xs) a = let clash = a.0 in absurd (cc clash)
@@ -55,7 +55,7 @@ none-longer [] w more e = absurd (cc e)
 none-longer (m ∷ mid) w more e = absurd (cc e)
 
 -- a proper front of a sentence has no whole sentence at its front
-no-whole : (f : Form) (x y : Sentence) (part mid : List Lexeme) → IsAllowed f x → IsAllowed f y → IsFront (sentence_text f x) part → AreWritten (sentence_text f y) part mid → ⊥
+pub no-whole : (f : Form) (x y : Sentence) (part mid : List Lexeme) → IsAllowed f x → IsAllowed f y → IsFront (sentence_text f x) part → AreWritten (sentence_text f y) part mid → ⊥
 no-whole f x y part mid m n (w, more, h) k =
     none-longer mid w more (one_sentence f x y (part ++ w ∷ more) [] (mid ++ w ∷ more) m n h (sentence_goes_on f y part mid (w ∷ more) k)).1
 
@@ -125,7 +125,7 @@ same-call f (a_command c) header_again (u ∷ ws) m n p q = let clash = both-hea
 -- ---- a wrong place against lexemes that go on
 
 -- what is wrong there is no token with which something goes on
-stop-behind : (L : Language) (call : ℕ → Wrong) (ws : List Lexeme) (s b : Left) (e : Wrong) (v : Lexeme) (more : List Lexeme) → IsWrong L call ws s e → Reads s (v ∷ more) b
+pub stop-behind : (L : Language) (call : ℕ → Wrong) (ws : List Lexeme) (s b : Left) (e : Wrong) (v : Lexeme) (more : List Lexeme) → IsWrong L call ws s e → Reads s (v ∷ more) b
     → IsViable L (ws ++ v ∷ []) → ⊥
 stop-behind L call ws s b e v more (inl (n, h, _)) (t, k, q, r) g = token_no_byte s t n k h
 stop-behind L call ws s b e v more (inr (inl (n, h, _))) (t, k, q, r) g = token_no_char s t n k h
@@ -165,7 +165,7 @@ stop-no-char L ws s n k (inr (g, _, _)) h = let clash : BadChar k ≡ End = one_
 no-byte-char : (s : Left) (n k : ℕ) → Shows s (BadByte n) → Shows s (BadChar k) → ⊥
 no-byte-char s n k h g = let clash : BadByte n ≡ BadChar k = one_shown s (BadByte n) (BadChar k) h g in absurd (cc clash)
 
-same-wrong : (L K : Language) (call ring : ℕ → Wrong) (ws vs : List Lexeme) (s : Left) (e d : Wrong) → call ≡ ring → IsWrong L call ws s e → IsWrong K ring vs s d → e ≡ d
+pub same-wrong : (L K : Language) (call ring : ℕ → Wrong) (ws vs : List Lexeme) (s : Left) (e d : Wrong) → call ≡ ring → IsWrong L call ws s e → IsWrong K ring vs s d → e ≡ d
 same-wrong L K call ring ws vs s e d c (inl (n, h, p)) (inl (k, g, q)) = p ∙ ap bad_byte (same-byte s n k h g) ∙ sym q
 same-wrong L K call ring ws vs s e d c (inl (n, h, p)) (inr (inl (k, g, q))) = absurd (no-byte-char s n k h g)
 same-wrong L K call ring ws vs s e d c (inl (n, h, p)) (inr (inr (k, g, q))) = absurd (stop-no-byte K vs s k n g h)

@@ -10,6 +10,7 @@ use Rattle.lt_grammar.specs.declared.words.Fixed.TheVariants.{Semicolon, Colon, 
 use Rattle.lt_grammar.specs.declared.words.Part.{Part}
 use Rattle.lt_grammar.specs.declared.words.Part.TheVariants.{Label, Number, Variable, Parameters, AType, AStatement, ATerm, Fixed as Exactly}
 use Rattle.lt_texts.specs.Writing.{type_lexemes, types_lexemes, arguments_lexemes, TermText, word, bound, free, lambda, applied, TermTexts, no_more_terms, more_terms, term_lexemes, terms_lexemes}
+use Rattle.lt_texts.specs.WrongPlaces.{EndsThere}
 use Rattle.lt_grammar.specs.Rows.{fixed, Text, variables_lexemes, part_lexemes, Texts, parts_lexemes}
 
 -- ---- types
@@ -56,20 +57,21 @@ IsClear [] = ⊥
 IsClear (a_sign OpenSquare ∷ x) = ⊥
 IsClear x = Unit {0}
 
-square-clash : (x y : List Lexeme) → IsClear x → x ≡ a_sign OpenSquare ∷ y → ⊥
-square-clash x y n e = subst IsClear e n
-
 from-row : (ts us : List TypeTree) → row ts ≡ row us → ts ≡ us
 from-row [] [] e = refl
 from-row [] (u ∷ us) e = absurd (cc e)
 from-row (t ∷ ts) [] e = absurd (cc e)
 from-row (t ∷ ts) (u ∷ us) e = let first : t ≡ u = cc e in let rows : row ts ≡ row us = cc e in let rest = from-row ts us rows in cc (first, rest)
 
-one-arguments : (ts us : List TypeTree) (x y : List Lexeme) → IsClear x → IsClear y → arguments_lexemes ts x ≡ arguments_lexemes us y → (ts ≡ us) × (x ≡ y)
-one-arguments [] [] x y m n e = (refl, e)
-one-arguments [] (u ∷ us) x y m n e = absurd (square-clash x _ m e)
-one-arguments (t ∷ ts) [] x y m n e = absurd (square-clash y _ n (sym e))
-one-arguments (t ∷ ts) (u ∷ us) x y m n e =
+-- what is behind a constant doesn't go on it
+no-square : (c : Chars) (x y : List Lexeme) → EndsThere (word c []) x → x ≡ a_sign OpenSquare ∷ y → ⊥
+no-square c x y n e = subst (EndsThere (word c [])) e n
+
+one-arguments : (c d : Chars) (ts us : List TypeTree) (x y : List Lexeme) → EndsThere (word c ts) x → EndsThere (word d us) y → arguments_lexemes ts x ≡ arguments_lexemes us y → (ts ≡ us) × (x ≡ y)
+one-arguments c d [] [] x y m n e = (refl, e)
+one-arguments c d [] (u ∷ us) x y m n e = absurd (no-square c x _ m e)
+one-arguments c d (t ∷ ts) [] x y m n e = absurd (no-square d y _ n (sym e))
+one-arguments c d (t ∷ ts) (u ∷ us) x y m n e =
     let tail : type_lexemes t (types_lexemes (row ts) (a_sign CloseSquare ∷ x)) ≡ type_lexemes u (types_lexemes (row us) (a_sign CloseSquare ∷ y)) = cc e in
     let p = one_type t u _ _ tail in
     let q = one_types CloseSquare (row ts) (row us) x y (λ h. cc h) p.1 in
@@ -95,58 +97,73 @@ pub terms_clear : (ts : TermTexts) (x : List Lexeme) → IsClear x → IsClear (
 terms_clear no_more_terms x n = n
 terms_clear (more_terms t ts) x n = term_clear t (terms_lexemes ts x)
 
+-- what is clear goes on no term
+pub ends_clear : (t : TermText) (x : List Lexeme) → IsClear x → EndsThere t x
+ends_clear (word c []) [] n = absurd n
+ends_clear (word c []) (a_sign OpenSquare ∷ x) n = absurd n
+ends_clear (word c []) (w ∷ x) n = tt
+ends_clear (word c (t ∷ ts)) x n = tt
+ends_clear (bound c) x n = tt
+ends_clear (free c ty) x n = tt
+ends_clear (lambda c ty b) x n = tt
+ends_clear (applied f a more) x n = tt
+
 mutual
-  pub one_term : (s u : TermText) (x y : List Lexeme) → IsClear x → IsClear y → term_lexemes s x ≡ term_lexemes u y → (s ≡ u) × (x ≡ y)
-  one_term (word c ts) (word d us) x y m n e =
+  pub one_term_there : (s u : TermText) (x y : List Lexeme) → EndsThere s x → EndsThere u y → term_lexemes s x ≡ term_lexemes u y → (s ≡ u) × (x ≡ y)
+  one_term_there (word c ts) (word d us) x y m n e =
       let same : c ≡ d = cc e in
       let tail : arguments_lexemes ts x ≡ arguments_lexemes us y = cc e in
-      let p = one-arguments ts us x y m n tail in
+      let p = one-arguments c d ts us x y m n tail in
       let first = p.0 in
       (cc (same, first), p.1)
-  one_term (bound c) (bound d) x y m n e = (cc e, cc e)
-  one_term (free c s) (free d u) x y m n e =
+  one_term_there (bound c) (bound d) x y m n e = (cc e, cc e)
+  one_term_there (free c s) (free d u) x y m n e =
       let same : c ≡ d = cc e in
       let tail : type_lexemes s (a_sign Close ∷ x) ≡ type_lexemes u (a_sign Close ∷ y) = cc e in
       let p = one_type s u _ _ tail in
       let first = p.0 in let second = p.1 in
       (cc (same, first), cc second)
-  one_term (lambda c s b) (lambda d u g) x y m n e =
+  one_term_there (lambda c s b) (lambda d u g) x y m n e =
       let same : c ≡ d = cc e in
       let tail : type_lexemes s (term_lexemes b (a_sign Close ∷ x)) ≡ type_lexemes u (term_lexemes g (a_sign Close ∷ y)) = cc e in
       let p = one_type s u _ _ tail in
-      let q = one_term b g _ _ tt tt p.1 in
+      let q = one_term_there b g (a_sign Close ∷ x) (a_sign Close ∷ y) (ends_clear b (a_sign Close ∷ x) tt) (ends_clear g (a_sign Close ∷ y) tt) p.1 in
       let first = p.0 in let second = q.0 in let third = q.1 in
       (cc (same, first, second), cc third)
-  one_term (applied f a i) (applied g b k) x y m n e =
+  one_term_there (applied f a i) (applied g b k) x y m n e =
       let tail : term_lexemes f (term_lexemes a (terms_lexemes i (a_sign Close ∷ x))) ≡ term_lexemes g (term_lexemes b (terms_lexemes k (a_sign Close ∷ y))) = cc e in
-      let p = one_term f g _ _ (term_clear a _) (term_clear b _) tail in
-      let q = one_term a b _ _ (terms_clear i _ tt) (terms_clear k _ tt) p.1 in
+      let p = one_term_there f g (term_lexemes a (terms_lexemes i (a_sign Close ∷ x))) (term_lexemes b (terms_lexemes k (a_sign Close ∷ y))) (ends_clear f (term_lexemes a (terms_lexemes i (a_sign Close ∷ x))) (term_clear a (terms_lexemes i (a_sign Close ∷ x))))
+      (ends_clear g (term_lexemes b (terms_lexemes k (a_sign Close ∷ y))) (term_clear b (terms_lexemes k (a_sign Close ∷ y)))) tail in
+      let q = one_term_there a b (terms_lexemes i (a_sign Close ∷ x)) (terms_lexemes k (a_sign Close ∷ y)) (ends_clear a (terms_lexemes i (a_sign Close ∷ x)) (terms_clear i (a_sign Close ∷ x) tt)) (ends_clear b (terms_lexemes k (a_sign Close ∷ y)) (terms_clear k (a_sign Close ∷ y) tt)) p.1 in
       let r = one_terms i k x y q.1 in
       let first = p.0 in let second = q.0 in let third = r.0 in
       (cc (first, second, third), r.1)
-  one_term (free c s) (applied g b k) x y m n e =
+  one_term_there (free c s) (applied g b k) x y m n e =
       let tail : a_sign Dollar ∷ a_name c ∷ type_lexemes s (a_sign Close ∷ x) ≡ term_lexemes g (term_lexemes b (terms_lexemes k (a_sign Close ∷ y))) = cc e in
       absurd (term-no-sign Dollar g _ _ (λ h. cc h) (λ h. cc h) tail)
-  one_term (applied g b k) (free c s) x y m n e =
+  one_term_there (applied g b k) (free c s) x y m n e =
       let tail : a_sign Dollar ∷ a_name c ∷ type_lexemes s (a_sign Close ∷ y) ≡ term_lexemes g (term_lexemes b (terms_lexemes k (a_sign Close ∷ x))) = let h = sym e in cc h in
       absurd (term-no-sign Dollar g _ _ (λ h. cc h) (λ h. cc h) tail)
-  one_term (lambda c s r) (applied g b k) x y m n e =
+  one_term_there (lambda c s r) (applied g b k) x y m n e =
       let tail : a_sign Backslash ∷ a_name c ∷ type_lexemes s (term_lexemes r (a_sign Close ∷ x)) ≡ term_lexemes g (term_lexemes b (terms_lexemes k (a_sign Close ∷ y))) = cc e in
       absurd (term-no-sign Backslash g _ _ (λ h. cc h) (λ h. cc h) tail)
-  one_term (applied g b k) (lambda c s r) x y m n e =
+  one_term_there (applied g b k) (lambda c s r) x y m n e =
       let tail : a_sign Backslash ∷ a_name c ∷ type_lexemes s (term_lexemes r (a_sign Close ∷ y)) ≡ term_lexemes g (term_lexemes b (terms_lexemes k (a_sign Close ∷ x))) = let h = sym e in cc h in
       absurd (term-no-sign Backslash g _ _ (λ h. cc h) (λ h. cc h) tail)
-  one_term _ _ x y m n e = absurd (cc e)
+  one_term_there _ _ x y m n e = absurd (cc e)
 
   pub one_terms : (m k : TermTexts) (x y : List Lexeme) → terms_lexemes m (a_sign Close ∷ x) ≡ terms_lexemes k (a_sign Close ∷ y) → (m ≡ k) × (x ≡ y)
   one_terms no_more_terms no_more_terms x y e = (refl, cc e)
   one_terms no_more_terms (more_terms t k) x y e = absurd (term-no-sign Close t _ _ (λ h. cc h) (λ h. cc h) e)
   one_terms (more_terms s m) no_more_terms x y e = absurd (term-no-sign Close s _ _ (λ h. cc h) (λ h. cc h) (sym e))
   one_terms (more_terms s m) (more_terms t k) x y e =
-      let p = one_term s t _ _ (terms_clear m _ tt) (terms_clear k _ tt) e in
+      let p = one_term_there s t (terms_lexemes m (a_sign Close ∷ x)) (terms_lexemes k (a_sign Close ∷ y)) (ends_clear s (terms_lexemes m (a_sign Close ∷ x)) (terms_clear m (a_sign Close ∷ x) tt)) (ends_clear t (terms_lexemes k (a_sign Close ∷ y)) (terms_clear k (a_sign Close ∷ y) tt)) e in
       let q = one_terms m k x y p.1 in
       let first = p.0 in let second = q.0 in
       (cc (first, second), q.1)
+
+pub one_term : (s u : TermText) (x y : List Lexeme) → IsClear x → IsClear y → term_lexemes s x ≡ term_lexemes u y → (s ≡ u) × (x ≡ y)
+one_term s u x y m n e = one_term_there s u x y (ends_clear s x m) (ends_clear u y n) e
 
 -- ---- parts in a row
 

@@ -363,7 +363,7 @@ lines_written (line w ts ∷ lines) more ws rest h =
     (join_written (line_text (rule_of_text (line w ts))) (flat_map line_text (map rule_of_text lines) ++ more) _ _ rest
     (line-written w ts (lines_lexemes lines ws)) (lines_written lines more ws rest h))
 
-written-line : (r : Rule TermTree) (ws rest : List Lexeme) → AreWritten (line_text r) ws rest
+pub written-line : (r : Rule TermTree) (ws rest : List Lexeme) → AreWritten (line_text r) ws rest
     → (w : RuleWord) × (ts : Texts (rule_row w).parts) × (rule_of_text (line w ts) ≡ r) × (ws ≡ row_lexemes (rule_row w) ts rest)
 written-line r ws rest h =
     let row = rule-row r in
@@ -387,10 +387,10 @@ written_lines (r ∷ rules) more ws rest h =
 -- ---- sentences
 
 -- a lemma's pieces behind its statement
-abbrev lemma-tail : List (Rule TermTree) → List Piece
+abbrev pub lemma-tail : List (Rule TermTree) → List Piece
 lemma-tail rules = flat_map line_text rules ++ (sign_piece kinds.CloseBrace ∷ semicolon ∷ [])
 
-lemma-pieces : (l : Chars) (t : TermTree) (rules : List (Rule TermTree))
+pub lemma-pieces : (l : Chars) (t : TermTree) (rules : List (Rule TermTree))
     → command_text (item_command (lemma_item l t rules)) ++ semicolon ∷ [] ≡ keyword "lemma" ∷ name_piece l ∷ colon ∷ statement_piece t ∷ sign_piece kinds.OpenBrace ∷ lemma-tail rules
 lemma-pieces l t rules =
     ap (λ (z : List Piece). keyword "lemma" ∷ name_piece l ∷ colon ∷ statement_piece t ∷ sign_piece kinds.OpenBrace ∷ z)

@@ -36,7 +36,7 @@ head_of_part (item w ts) = Item w
 head_of_part (lemma l p lines) = Lemma
 head_of_part (command w ts) = Further w
 
-is-head : (h : Form) (p : PartText) → MayStand h p → IsHead h (head_of_part p)
+pub is-head : (h : Form) (p : PartText) → MayStand h p → IsHead h (head_of_part p)
 is-head h header m = tt
 is-head h (item w ts) m = m
 is-head h (lemma l p lines) m = m

@@ -1,4 +1,5 @@
--- Whole texts by the reader's rows: lines and sentences in the ways in which they are written, and what they stand for.
+-- Whole texts by the reader's rows: lines and sentences in the ways in which they are written, and
+-- what they stand for.
 use Rattle.std.specs.Prelude.{◌≡◌, List, [], ◌∷◌, true, map, codes}
 use Rattle.lt_texts.specs.declared.lexical.TokenKind.TheVariants.{OpenBrace, CloseBrace, Semicolon}
 use Rattle.lt_definitions.specs.Types.{Chars}
@@ -16,7 +17,8 @@ use Rattle.lt_grammar.specs.declared.words.CommandWord.{CommandWord}
 use Rattle.lt_grammar.specs.Rows.{Row, Texts, number, parts_lexemes, given_all}
 use Rattle.lt_grammar.specs.Table.{rule_row, item_row, lemma_parts, command_row}
 
--- the lexemes of a row with these texts: its word, its parts and a semicolon, and behind them the rest
+-- the lexemes of a row with these texts: its word, its parts and a semicolon, and behind them the
+-- rest
 abbrev pub row_lexemes : {C : Type 0} → (r : Row C) → Texts r.parts → List Lexeme → List Lexeme
 row_lexemes r ts rest = a_name r.word ∷ parts_lexemes r.parts ts (a_sign Semicolon ∷ rest)
 
@@ -35,7 +37,8 @@ lines_lexemes (line w ts ∷ lines) rest = row_lexemes (rule_row w) ts (lines_le
 abbrev pub rule_of_text : LineText → Rule TermTree
 rule_of_text (line w ts) = row_meaning (rule_row w) ts
 
--- A way to write a sentence: a header, an item by its row, a lemma, or a further command by its row.
+-- A way to write a sentence: a header, an item by its row, a lemma, or a further command by its
+-- row.
 pub data PartText : Type 0 where
   header : PartText
   item : (w : ItemWord) → Texts (item_row w).parts → PartText
@@ -46,7 +49,8 @@ pub data PartText : Type 0 where
 abbrev pub text_lexemes : Form → PartText → List Lexeme → List Lexeme
 text_lexemes f header rest = a_name f.word ∷ number f.number ∷ a_sign Semicolon ∷ rest
 text_lexemes f (item w ts) rest = row_lexemes (item_row w) ts rest
-text_lexemes f (lemma l p lines) rest = a_name (codes "lemma") ∷ parts_lexemes lemma_parts (l, (tt, (p, tt)))
+text_lexemes f (lemma l p lines) rest =
+    a_name (codes "lemma") ∷ parts_lexemes lemma_parts (l, (tt, (p, tt)))
     (a_sign OpenBrace ∷ lines_lexemes lines (a_sign CloseBrace ∷ a_sign Semicolon ∷ rest))
 text_lexemes f (command w ts) rest = row_lexemes (command_row w) ts rest
 
@@ -69,7 +73,8 @@ MayStandAll f (p ∷ ps) = MayStand f p × MayStandAll f ps
 abbrev pub sentence_of : PartText → Sentence
 sentence_of header = header_again
 sentence_of (item w ts) = a_command (item_command (row_meaning (item_row w) ts))
-sentence_of (lemma l p lines) = a_command (item_command (lemma_item l (term_of_text p) (map rule_of_text lines)))
+sentence_of (lemma l p lines) =
+    a_command (item_command (lemma_item l (term_of_text p) (map rule_of_text lines)))
 sentence_of (command w ts) = a_command (row_meaning (command_row w) ts)
 
 -- the commands that are written, in order

@@ -1,5 +1,6 @@
--- A row of the reader's table: a word, the parts of the text behind it, and what is made of what the parts stand for. The text itself
--- is said by pieces, and laws tell that each row agrees with them.
+-- A row of the reader's table: a word, the parts of the text behind it, and what is made of what
+-- the parts stand for. The text itself is said by pieces, and laws tell that each row agrees with
+-- them.
 use Prim.Native.String.{String}
 use Rattle.std.specs.Prelude.{ℕ, List, [], ◌∷◌, Some, codes}
 use Rattle.lt_texts.specs.declared.lexical.TokenKind.TheVariants as kinds

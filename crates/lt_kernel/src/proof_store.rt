@@ -7,7 +7,7 @@ ghost use Rattle.lt_kernel.specs.Growing.{Carries};
 
 use crate::proof::Proof;
 use lt_hol::{Memory, Name, Ty, Tys};
-use lt_store::{Id, TermStore, View};
+use lt_store::{Bounds, Id, Memo, Replacing, TermStore, View};
 use std::alloc::Global;
 
 impl<S: TermStore> TermStore for Proof<S> {
@@ -19,6 +19,10 @@ impl<S: TermStore> TermStore for Proof<S> {
 
     fn view(&self, id: Id) -> View<'_> {
         self.store.view(id)
+    }
+
+    fn bounds(&self, id: Id) -> Option<Bounds> {
+        self.store.bounds(id)
     }
 
     fn mk_free(&mut self, alloc: Global, name: Name, ty: Ty) -> Result<Id, Memory>
@@ -67,6 +71,14 @@ impl<S: TermStore> TermStore for Proof<S> {
         ensures carries { Carries self.old self.new }
     {
         self.store.mk_lam(alloc, ty, body)
+    }
+
+    fn take_replaced(&mut self, name: &Name, ty: &Ty, by: Id) -> Option<Memo> {
+        self.store.take_replaced(name, ty, by)
+    }
+
+    fn keep_replaced(&mut self, replacing: Replacing) {
+        self.store.keep_replaced(replacing);
     }
 
     fn same(&self, alloc: Global, a: Id, b: Id) -> Result<bool, Memory> {

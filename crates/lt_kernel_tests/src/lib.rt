@@ -10,4 +10,6 @@ mod lines;
 #[cfg(test)]
 mod reasons;
 #[cfg(test)]
+mod sharing;
+#[cfg(test)]
 mod terms;

@@ -1,26 +1,37 @@
 //! A store that keeps each node once.
-ghost use Rattle.std.specs.Prelude.{◌≡◌, ◌<◌, ℕ, [], length, slice_get, Some, IfOk};
+ghost use Rattle.std.specs.Prelude.{◌≡◌, ◌<◌, ℕ, List, [], length, slice_get, Some, IfOk, IfSome};
 ghost use Rattle.lt_store.specs.declared.node.Node.{Node};
-ghost use Rattle.lt_store.specs.Trees.{Extends, IsBelow, Makes, node_tree, tree_at};
+ghost use Rattle.lt_store.specs.Bounds.{IsBounded, AreBounded};
+ghost use Rattle.lt_store.specs.Replaced.{AreReplaced, IsReplacing};
+ghost use Rattle.lt_store.specs.Trees.{Extends, IsBelow, IsGrounded, Makes, node_tree, tree_at};
 ghost use Rattle.lt_store.specs.Views.{node_of};
+ghost use Rattle.lt_shared.specs.Separate.{IsSeparate};
 
 use indexmap::IndexSet;
 use lt_hol::{Memory, Name, Ty, Tys};
-use lt_store::{Id, Node, TermStore, View};
+use lt_store::{Bounds, Id, Memo, Node, Replacing, TermStore, View};
 use std::alloc::Global;
 use std::marker::Model;
 
 /// The nodes as keys of a set, in the order in which they were first made: a node that was made
 /// before is found again, so that each term stands once and `same` compares two numbers.
+///
+/// The bounds of each node's term stand beside it, so that a pass doesn't go into a term that it
+/// can't change. Where memory ran out between a node and its bounds, they are wanting from it on.
+/// What the last replacement of a free variable made is kept, too.
 #[derive(Debug, Drop)]
 pub struct SharedStore {
     nodes: IndexSet<Node>,
+    bounds: Vec<Bounds>,
+    replaced: Option<Replacing>,
 }
 
 impl Model for SharedStore {
-    ghost use Rattle.std.specs.Prelude.{List};
+    ghost use Rattle.std.specs.Prelude.{List, IfSome};
     ghost use Rattle.lt_store.specs.declared.node.Node.{Node};
     ghost use Rattle.lt_store.specs.Trees.{IsGrounded};
+    ghost use Rattle.lt_store.specs.Bounds.{AreBounded};
+    ghost use Rattle.lt_store.specs.Replaced.{IsReplacing};
     ghost use Rattle.lt_shared.specs.Separate.{IsSeparate};
 
     ghost Value = { List Node };
@@ -32,7 +43,7 @@ impl Model for SharedStore {
 
     ghost view = { λ s. s.nodes.keys };
 
-    ghost invariant = { λ s. record { grounded : IsGrounded s.nodes.keys; separate : IsSeparate s.nodes.keys } };
+    ghost invariant = { λ s. record { grounded : IsGrounded s.nodes.keys; separate : IsSeparate s.nodes.keys; bounded : AreBounded s.nodes.keys s.bounds.items; replaced : IfSome s.replaced (IsReplacing s.nodes.keys) } };
 }
 
 impl SharedStore {
@@ -42,6 +53,8 @@ impl SharedStore {
     {
         SharedStore {
             nodes: IndexSet::new(alloc),
+            bounds: Vec::new(alloc),
+            replaced: None,
         }
     }
 
@@ -51,9 +64,41 @@ impl SharedStore {
         ensures ok { IfOk result (Makes self.old self.new node) }
         ensures kept { Extends self.old self.new }
     {
-        let (id, _) = self.nodes.insert_full(node)?;
+        let id = insert(&mut self.nodes, node)?;
+        note(&self.nodes, &mut self.bounds, id)?;
         Ok(id)
     }
+}
+
+/// The place of a node among distinct nodes, to which it is added where it isn't there yet.
+fn insert(nodes: &mut IndexSet<Node>, node: Node) -> Result<Id, Memory>
+    requires below { IsBelow (length nodes.old.keys) node }
+    requires grounded { IsGrounded nodes.old.keys }
+    requires separate { IsSeparate nodes.old.keys }
+    ensures ok { IfOk result (Makes nodes.old.keys nodes.new.keys node) }
+    ensures kept { Extends nodes.old.keys nodes.new.keys }
+    ensures grounded { IsGrounded nodes.new.keys }
+    ensures separate { IsSeparate nodes.new.keys }
+{
+    let (id, _) = nodes.insert_full(node)?;
+    Ok(id)
+}
+
+/// Adds the bounds of a node's term, where they are known and the next to be added.
+fn note(nodes: &IndexSet<Node>, bounds: &mut Vec<Bounds>, id: Id) -> Result<(), Memory>
+    requires id { id < length nodes.now.keys }
+    requires grounded { IsGrounded nodes.now.keys }
+    requires bounded { AreBounded nodes.now.keys bounds.old.items }
+    ensures { AreBounded nodes.now.keys bounds.new.items }
+{
+    if id != bounds.len() {
+        return Ok(());
+    }
+    let Some(known) = Bounds::of_node(nodes[id].view(), bounds.as_slice()) else {
+        return Ok(());
+    };
+    bounds.push(known)?;
+    Ok(())
 }
 
 impl TermStore for SharedStore {
@@ -72,6 +117,11 @@ impl TermStore for SharedStore {
         ensures once { (other : ℕ) → slice_get self.now other ≡ Some (node_of result) → other ≡ id }
     {
         self.nodes[id].view()
+    }
+
+    /// The bounds that stand beside the node.
+    fn bounds(&self, id: Id) -> Option<Bounds> {
+        self.bounds.get(id).copied()
     }
 
     fn mk_free(&mut self, _alloc: Global, name: Name, ty: Ty) -> Result<Id, Memory> {
@@ -94,9 +144,33 @@ impl TermStore for SharedStore {
         self.add(Node::Lam(ty, body))
     }
 
+    fn take_replaced(&mut self, name: &Name, ty: &Ty, by: Id) -> Option<Memo> {
+        let last = self.replaced.take();
+        made_by(last, name, ty, by)
+    }
+
+    fn keep_replaced(&mut self, replacing: Replacing) {
+        self.replaced = Some(replacing);
+    }
+
     /// Whether the two ids are one, which takes constant time.
     fn same(&self, _alloc: Global, a: Id, b: Id) -> Result<bool, Memory> {
         let _ = &self.nodes;
         Ok(a == b)
+    }
+}
+
+/// What was made by a replacement, if it is this one.
+fn made_by(last: Option<Replacing>, name: &Name, ty: &Ty, by: Id) -> Option<Memo>
+    ensures { (ns : List Node) → IfSome last (IsReplacing ns)
+        → IfSome result (AreReplaced ns name.now ty.now by) }
+{
+    let Some(last) = last else {
+        return None;
+    };
+    if last.is_of(name, ty, by) {
+        Some(last.made)
+    } else {
+        None
     }
 }

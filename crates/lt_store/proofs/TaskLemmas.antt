@@ -39,7 +39,7 @@ abbrev pub total_weight : List Node → List Task → ℕ
 total_weight ns ts = sum_by (weight ns) ts
 
 -- what was kept stays
-abbrev KeepsAll : Memo → Memo → Type 0
+abbrev pub KeepsAll : Memo → Memo → Type 0
 KeepsAll m m' = (p : ℕ × ℕ) → IsKept m p → IsKept m' p
 
 -- with no task behind it, what comes was kept
@@ -164,19 +164,19 @@ module _ (s : ℕ) where
 
   -- a turn, where rest is left of all tasks but the last; old are the nodes at the start, now those that there are
   module _ (old : List Node) (root : ℕ) (m : Memo) (all rest : List Task) (i d : ℕ) (now : IsUnderway old root m all) where
-    pub visit_turn : s ≤ 1 → (new : List Node) (made after : List Task) (n : Node) → all ≡ rest ++ Visit i d ∷ [] → made ≡ rest ++ Finish i d ∷ [] → after ≡ made ++ visits (children s n d)
-        → root < length old → Extends old new → slice_get new i ≡ Some n → IsBelow i n → tree_at new i ≡ node_tree new n → Turned old root m all after
-    visit_turn small new made after n was made-is is within e at below stands =
+    pub visit_turn : (m' : Memo) → KeepsAll m m' → s ≤ 1 → (new : List Node) (made after : List Task) (n : Node) → all ≡ rest ++ Visit i d ∷ [] → made ≡ rest ++ Finish i d ∷ [] → after ≡ made ++ visits (children s n d)
+        → root < length old → Extends old new → slice_get new i ≡ Some n → IsBelow i n → tree_at new i ≡ node_tree new n → Turned old root m' all after
+    visit_turn m' keeps small new made after n was made-is is within e at below stands =
         let inside : i + d ≤ root = (covered_last old root m rest (Visit i d) (subst (AreCovered old root m) was now.covered)).0 in
         let h : i < length old = omega arith in
         let back : slice_get old i ≡ Some n = node_back old new i n e h at in
-        turned old root m m (Visit i d) (Finish i d ∷ visits (children s n d)) (λ p k. k) (inr (inl refl)) all rest after was
+        turned old root m m' (Visit i d) (Finish i d ∷ visits (children s n d)) keeps (inr (inl refl)) all rest after was
         (is ∙ ap (λ l. l ++ visits (children s n d)) made-is ∙ append_assoc rest (Finish i d ∷ []) (visits (children s n d)))
-        (inside, (λ n' at'. subst (λ k. AllCome m (visits (children s n d)) (children s k d)) (same_Some n n' (sym back ∙ at')) (children_come m n d)), children_inside small old root m i d n inside below)
+        (inside, (λ n' at'. subst (λ k. AllCome m' (visits (children s n d)) (children s k d)) (same_Some n n' (sym back ∙ at')) (children_come m' n d)), children_inside small old root m' i d n inside below)
         (visit_lighter old i d n (stands_back old new i n e h below stands)) now
 
-    pub skip_turn : all ≡ rest ++ Visit i d ∷ [] → IsKept m (i, d) → Turned old root m all rest
-    skip_turn was own = turned old root m m (Visit i d) [] (λ p k. k) (inl own) all rest rest was (sym (append-nil rest)) tt (weight_positive old (Visit i d)) now
+    pub skip_turn : (m' : Memo) → KeepsAll m m' → all ≡ rest ++ Visit i d ∷ [] → IsKept m' (i, d) → Turned old root m' all rest
+    skip_turn m' keeps was own = turned old root m m' (Visit i d) [] keeps (inl own) all rest rest was (sym (append-nil rest)) tt (weight_positive old (Visit i d)) now
 
     pub finish_turn : (m' : Memo) (r : ℕ) → all ≡ rest ++ Finish i d ∷ [] → Keeps m m' i d r → Turned old root m' all rest
     finish_turn m' r was law =

@@ -10,3 +10,6 @@ pub mod Stacks
 pub mod TypeNumbers
 pub mod TypeTasks
 pub mod NameTasks
+pub mod Bounds
+pub mod KnownTypes
+pub mod Replaced

@@ -1,7 +1,9 @@
 //! What a pass over a term does: it changes something, looks for something, or measures names.
-ghost use Rattle.std.specs.Prelude.{◌≡◌, ◌≤◌, IfOk};
+ghost use Rattle.std.specs.Prelude.{◌≡◌, ◌≤◌, true, IfOk};
+ghost use Rattle.lt_store.specs.Bounds.{IsUnchanged, IsAbsent};
 ghost use Rattle.lt_store.specs.Passes.{change_step, sought_step, step_of, type_image};
 
+use crate::bounds::Bounds;
 use crate::node::Id;
 use lt_hol::{Memory, Name, TryCopy, Ty, TyMap, tsub};
 use std::alloc::Global;
@@ -62,6 +64,16 @@ impl Sought<'_> {
             Sought::Loose => 1,
         }
     }
+
+    /// Whether a term of these bounds is known not to have it under so many binders.
+    pub(crate) fn lacks(self, known: Bounds, depth: usize) -> bool
+        ensures { result ≡ true → IsAbsent self.entry known depth }
+    {
+        match self {
+            Sought::Variable(name, _) => known.names < name.len(),
+            Sought::Loose => known.binders <= depth,
+        }
+    }
 }
 
 impl Change<'_> {
@@ -72,6 +84,18 @@ impl Change<'_> {
         match self {
             Change::Open(_) | Change::Close(_, _) => 1,
             Change::Replace(_, _, _) | Change::Types(_) => 0,
+        }
+    }
+
+    /// Whether a term of these bounds is known to stay as it is under so many binders.
+    pub(crate) fn leaves(self, known: Bounds, depth: usize) -> bool
+        ensures { result ≡ true → IsUnchanged self.entry known depth }
+    {
+        match self {
+            Change::Open(_) => known.binders <= depth,
+            Change::Close(name, _) => known.names < name.len(),
+            Change::Replace(name, _, _) => known.names < name.len(),
+            Change::Types(_) => false,
         }
     }
 

@@ -1,7 +1,7 @@
 //! The one driver of all passes over terms.
-ghost use Rattle.std.specs.Prelude.{◌≡◌, ◌+◌, ◌<◌, ◌^◌, ◌++◌, length, Some, slice_get, OnOk, IfOk};
+ghost use Rattle.std.specs.Prelude.{◌≡◌, ◌+◌, ◌<◌, ◌^◌, ◌++◌, ℕ, length, true, Some, slice_get, OnOk, IfOk};
 ghost use Rattle.lt_store.specs.declared.node.Node.{Node};
-ghost use Rattle.lt_store.specs.Memos.{AllKept};
+ghost use Rattle.lt_store.specs.Memos.{AllKept, IsKept};
 ghost use Rattle.lt_store.specs.Trees.{Extends};
 ghost use Rattle.lt_store.specs.Views.{node_of};
 ghost use Rattle.lt_store.specs.Tasks.{visits};
@@ -12,6 +12,7 @@ use crate::image::{found_in, image_of, measured};
 use crate::memo::{Memo, keep, kept, look};
 use crate::node::{Id, View};
 use crate::term_store::TermStore;
+use crate::told::told;
 use lt_hol::Memory;
 use std::alloc::Global;
 
@@ -70,9 +71,36 @@ fn result_of<S: TermStore>(
     }
 }
 
+/// Whether a result is kept for an id at a depth. One that the store's knowledge tells is kept first.
+fn is_settled<S: TermStore>(
+    store: &S,
+    work: Work<'_>,
+    memo: &mut Memo,
+    id: Id,
+    depth: usize,
+) -> Result<bool, Memory>
+    requires id { id < length (S.nodes store.now) }
+    requires sound { IsSound work (S.nodes store.now) memo.old }
+    ensures sound { OnOk result (IsSound work.entry (S.nodes store.now) memo.new) }
+    ensures kept { OnOk result ((p : ℕ × ℕ) → IsKept memo.old p → IsKept memo.new p) }
+    ensures is { IfOk result (λ yes. yes ≡ true → IsKept memo.new (id, depth)) }
+{
+    if look(memo, id, depth).is_some() {
+        return Ok(true);
+    }
+    match told(store, work, id, depth) {
+        Some(made) => {
+            keep(memo, id, depth, made)?;
+            Ok(true)
+        }
+        None => Ok(false),
+    }
+}
+
 /// The result of a pass for a term.
 ///
 /// Each node is worked on once for each depth at which it lies, or once where the depth doesn't matter.
+/// A term that the store knows to be too small for the work isn't gone into.
 /// What `memo` has from an earlier pass of the same work isn't worked on again.
 pub(crate) fn run<S: TermStore>(
     alloc: Global,
@@ -95,7 +123,7 @@ pub(crate) fn run<S: TermStore>(
     while let Some(task) = tasks.pop() {
         match task {
             Task::Visit(id, depth) => {
-                if look(memo, id, depth).is_some() {
+                if is_settled(store, work, memo, id, depth)? {
                     continue;
                 }
                 tasks.push(Task::Finish(id, depth))?;

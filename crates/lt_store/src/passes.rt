@@ -1,16 +1,20 @@
 //! The passes over the terms of any store.
-ghost use Rattle.std.specs.Prelude.{◌≡◌, ◌<◌, length, map, IfOk};
+ghost use Rattle.std.specs.Prelude.{◌≡◌, ◌<◌, length, map, IfOk, OnOk};
 ghost use Rattle.std.specs.List.{list_any};
 ghost use Rattle.lt_nameless.specs.NamelessRules.{instance_at, abstracted, nameless_replaced, nameless_instance, nameless_has_free, has_index};
 ghost use Rattle.lt_store.specs.Trees.{tree_at, trees, AllBelow, Extends};
 ghost use Rattle.lt_store.specs.Building.{Builds, BuildsEach};
-ghost use Rattle.lt_store.specs.Passes.{image, occurs, longest_free_of, ChangeIsIn};
+ghost use Rattle.lt_store.specs.Passes.{image, occurs, longest_free_of, ChangeIsIn, IsSound};
+ghost use Rattle.lt_store.specs.Replaced.{AreReplaced};
+ghost use Rattle.lt_store.specs.declared.change.Work.TheVariants as work;
 
 use crate::change::{Change, Sought, Work};
+use crate::memo::Memo;
 use crate::node::Id;
 use crate::pass::run;
+use crate::replacing::Replacing;
 use crate::term_store::TermStore;
-use lt_hol::{Ids, List, Memory, Name, Ty, TyMap};
+use lt_hol::{Ids, List, Memory, Name, TryCopy, Ty, TyMap};
 use std::alloc::Global;
 use std::collections::HashMap;
 
@@ -36,17 +40,19 @@ fn make_each<S: TermStore>(
     alloc: Global,
     store: &mut S,
     change: Change<'_>,
+    memo: &mut Memo,
     roots: &[Id],
 ) -> Result<Ids, Memory>
     requires roots { AllBelow (length (S.nodes store.old)) roots.now }
     requires change { ChangeIsIn (length (S.nodes store.old)) change }
-    ensures { BuildsEach (S.nodes store.old) (S.nodes store.new) result
+    requires sound { IsSound (work.Make change) (S.nodes store.old) memo.old }
+    ensures sound { OnOk result (IsSound (work.Make change.entry) (S.nodes store.new) memo.new) }
+    ensures builds { BuildsEach (S.nodes store.old) (S.nodes store.new) result
         (map (image (S.nodes store.old) change.entry 0) (trees (S.nodes store.old) roots.now)) }
 {
-    let mut memo = HashMap::new(alloc);
     let mut made = List::new(alloc);
     for root in roots {
-        let id = run(alloc, store, Work::Make(change), &mut memo, *root)?;
+        let id = run(alloc, store, Work::Make(change), memo, *root)?;
         made.push(alloc, id)?;
     }
     Ok(made)
@@ -130,10 +136,26 @@ pub fn type_instances<S: TermStore>(
     ensures { BuildsEach (S.nodes store.old) (S.nodes store.new) result
         (map (nameless_instance by.now) (trees (S.nodes store.old) ts.now)) }
 {
-    make_each(alloc, store, Change::Types(by), ts)
+    let mut memo = HashMap::new(alloc);
+    let made = make_each(alloc, store, Change::Types(by), &mut memo, ts)?;
+    Ok(made)
+}
+
+/// What the store kept of the last replacement, if it is this one, else nothing.
+fn made_before<S: TermStore>(alloc: Global, store: &mut S, name: &Name, ty: &Ty, by: Id) -> Memo
+    ensures kept { S.nodes store.new ≡ S.nodes store.old }
+    ensures is { AreReplaced (S.nodes store.new) name.now ty.now by result }
+{
+    match store.take_replaced(name, ty, by) {
+        Some(memo) => memo,
+        None => HashMap::new(alloc),
+    }
 }
 
 /// Each of some terms with `by` put for a free variable.
+///
+/// A store that keeps what a replacement made has the next one of the same variable by the same
+/// term go on with it, so that a term that was met before isn't worked on again.
 pub fn replace_free<S: TermStore>(
     alloc: Global,
     store: &mut S,
@@ -147,7 +169,17 @@ pub fn replace_free<S: TermStore>(
     ensures { BuildsEach (S.nodes store.old) (S.nodes store.new) result
         (map (nameless_replaced name.now ty.now (tree_at (S.nodes store.old) by)) (trees (S.nodes store.old) ts.now)) }
 {
-    make_each(alloc, store, Change::Replace(name, ty, by), ts)
+    let mut memo = made_before(alloc, store, name, ty, by);
+    let made = make_each(alloc, store, Change::Replace(name, ty, by), &mut memo, ts)?;
+    let name = name.copy(alloc)?;
+    let ty = ty.copy(alloc)?;
+    store.keep_replaced(Replacing {
+        name,
+        ty,
+        by,
+        made: memo,
+    });
+    Ok(made)
 }
 
 /// Whether a free variable occurs in one of some terms.

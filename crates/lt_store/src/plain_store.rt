@@ -4,7 +4,10 @@ ghost use Rattle.lt_store.specs.declared.node.Node.{Node};
 ghost use Rattle.lt_store.specs.declared.node.Node.TheVariants.{Free, Bound, Const, App, Lam};
 ghost use Rattle.lt_store.specs.Trees.{Makes, Appends, IsBelow, Extends};
 
+use crate::bounds::Bounds;
+use crate::memo::Memo;
 use crate::node::{Id, Node, View};
+use crate::replacing::Replacing;
 use crate::same::is_same;
 use crate::term_store::TermStore;
 use lt_hol::{Memory, Name, Ty, Tys};
@@ -70,6 +73,11 @@ impl TermStore for PlainStore {
         self.nodes[id].view()
     }
 
+    /// None: nothing is kept beside the nodes.
+    fn bounds(&self, _id: Id) -> Option<Bounds> {
+        None
+    }
+
     fn mk_free(&mut self, _alloc: Global, name: Name, ty: Ty) -> Result<Id, Memory>
         ensures ok { IfOk result (Makes self.old self.new (Free name ty)) }
         ensures kept { Extends self.old self.new }
@@ -112,6 +120,12 @@ impl TermStore for PlainStore {
     {
         self.add(Node::Lam(ty, body))
     }
+
+    fn take_replaced(&mut self, _name: &Name, _ty: &Ty, _by: Id) -> Option<Memo> {
+        None
+    }
+
+    fn keep_replaced(&mut self, _replacing: Replacing) {}
 
     fn same(&self, alloc: Global, a: Id, b: Id) -> Result<bool, Memory> {
         is_same(alloc, self.nodes.as_slice(), a, b)

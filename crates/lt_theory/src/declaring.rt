@@ -6,13 +6,13 @@ ghost use Rattle.lt_theory.specs.Standing.{StandsFor, Adds};
 use crate::fault::Fault;
 use lt_hol::{Name, TryCopy, Ty, TypeFault};
 use lt_kernel::Proof;
-use lt_store::PlainStore;
+use lt_shared::SharedStore;
 use std::alloc::Global;
 
 /// Adds a type where there is none of its name.
 pub(crate) fn add_type(
     alloc: Global,
-    proof: &mut Proof<PlainStore>,
+    proof: &mut Proof<SharedStore>,
     name: &Name,
     arity: usize,
 ) -> Result<(), Fault>
@@ -31,7 +31,7 @@ pub(crate) fn add_type(
 /// Adds a constant where there is none of its name and its type has no fault.
 pub(crate) fn add_const(
     alloc: Global,
-    proof: &mut Proof<PlainStore>,
+    proof: &mut Proof<SharedStore>,
     name: &Name,
     ty: &Ty,
 ) -> Result<(), Fault>

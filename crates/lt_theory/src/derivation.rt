@@ -11,13 +11,13 @@ use crate::fault::Fault;
 use crate::storing::store_line;
 use lt_hol::{Line, Lines};
 use lt_kernel::{Proof, RuleFault};
-use lt_store::PlainStore;
+use lt_shared::SharedStore;
 use std::alloc::Global;
 
 /// Derives the lines, and answers how many there are.
 pub(crate) fn add_lines(
     alloc: Global,
-    proof: &mut Proof<PlainStore>,
+    proof: &mut Proof<SharedStore>,
     lines: &Lines,
 ) -> Result<usize, Fault>
     requires { proof.old.steps ≡ [] }
@@ -39,7 +39,7 @@ pub(crate) fn add_lines(
 /// Derives one more line, and answers its number.
 fn add_line(
     alloc: Global,
-    proof: &mut Proof<PlainStore>,
+    proof: &mut Proof<SharedStore>,
     lines: &Lines,
     line: &Line,
 ) -> Result<usize, Fault>

@@ -18,13 +18,14 @@ use crate::derivation::add_lines;
 use crate::fault::Fault;
 use lt_hol::{Lines, Memory, Name, Signature, Term, TryCopy, Ty, TypeFault};
 use lt_kernel::{Proof, RuleFault};
-use lt_store::{Id, PlainStore, TermStore};
+use lt_shared::SharedStore;
+use lt_store::{Id, TermStore};
 use std::alloc::Global;
 
 /// Adds an axiom: its statement is closed and boolean, and its label is new.
 pub(crate) fn add_axiom(
     alloc: Global,
-    proof: &mut Proof<PlainStore>,
+    proof: &mut Proof<SharedStore>,
     label: &Name,
     statement: &Term,
 ) -> Result<(), Fault>
@@ -40,7 +41,7 @@ pub(crate) fn add_axiom(
 /// Adds a lemma: as an axiom, and its lines derive its statement.
 pub(crate) fn add_lemma(
     alloc: Global,
-    proof: &mut Proof<PlainStore>,
+    proof: &mut Proof<SharedStore>,
     label: &Name,
     statement: &Term,
     lines: &Lines,
@@ -82,7 +83,7 @@ fn check_statement(alloc: Global, sig: &Signature, statement: &Term) -> Result<(
 /// Names a statement where no other has the label.
 fn name_statement(
     alloc: Global,
-    proof: &mut Proof<PlainStore>,
+    proof: &mut Proof<SharedStore>,
     label: &Name,
     statement: Id,
 ) -> Result<(), Fault>
@@ -104,7 +105,7 @@ fn name_statement(
 /// Whether the line with the last number has no hypotheses and this conclusion.
 fn is_proved(
     alloc: Global,
-    proof: &Proof<PlainStore>,
+    proof: &Proof<SharedStore>,
     last: usize,
     statement: Id,
 ) -> Result<bool, Memory>

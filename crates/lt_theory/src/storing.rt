@@ -11,13 +11,14 @@ ghost use Rattle.lt_theory.specs.Storing.{StoresTerm, StoresLine};
 use crate::fault::Fault;
 use lt_hol::{Line, Lines, Signature, Term, TryCopy, Ty, TypeFault};
 use lt_kernel::Proof;
-use lt_store::{Id, PlainStore};
+use lt_shared::SharedStore;
+use lt_store::Id;
 use std::alloc::Global;
 
 /// The line with its terms in the store, where its types and terms have no fault.
 pub(crate) fn store_line(
     alloc: Global,
-    proof: &mut Proof<PlainStore>,
+    proof: &mut Proof<SharedStore>,
     lines: &Lines,
     line: &Line,
 ) -> Result<Line, Fault>
@@ -66,7 +67,7 @@ pub(crate) fn store_line(
 /// The term at a place of the lines' nodes, in the store, where it has no fault.
 fn store_term(
     alloc: Global,
-    proof: &mut Proof<PlainStore>,
+    proof: &mut Proof<SharedStore>,
     lines: &Lines,
     place: usize,
 ) -> Result<Id, Fault>

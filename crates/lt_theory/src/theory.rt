@@ -10,14 +10,14 @@ use crate::fault::Fault;
 use crate::stating::{add_axiom, add_lemma};
 use lt_hol::{Item, Memory, Signature};
 use lt_kernel::Proof;
-use lt_store::PlainStore;
+use lt_shared::SharedStore;
 use std::alloc::Global;
 use std::marker::Model;
 
 /// A theory, which contracts see as the state of its kernel.
 #[derive(Drop)]
 pub struct Theory {
-    proof: Proof<PlainStore>,
+    proof: Proof<SharedStore>,
 }
 
 impl Model for Theory {
@@ -40,7 +40,7 @@ impl Theory {
     {
         let signature = Signature::new(alloc)?;
         Ok(Theory {
-            proof: Proof::new(alloc, signature, PlainStore::new(alloc)),
+            proof: Proof::new(alloc, signature, SharedStore::new(alloc)),
         })
     }
 

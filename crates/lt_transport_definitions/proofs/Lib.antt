@@ -1,0 +1,3 @@
+-- Lemmas on the sessions of the examples.
+pub mod SampleLemmas
+pub mod Reached

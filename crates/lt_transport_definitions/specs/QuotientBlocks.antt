@@ -33,13 +33,16 @@ four_between raw abs R A B T = record {
 
 -- Quotient R A B T, where the constant counts as such
 abbrev pub as_quotient : Signature → TermTree → Option QuotientTheorem
-as_quotient sig (application (application (application (application (constant c (raw ∷ abs ∷ [])) R) A) B) T) =
-    if same_name c (codes "Quotient") && is_counted sig c then Some (record { raw = raw; abs = abs; four = four_between raw abs R A B T }) else None
+as_quotient sig
+    (application (application (application (application (constant c (raw ∷ abs ∷ [])) R) A) B) T) =
+    if same_name c (codes "Quotient") && is_counted sig c
+    then Some (record { raw = raw; abs = abs; four = four_between raw abs R A B T }) else None
 as_quotient sig _ = None
 
 -- the form that a correspondence's constant has
 abbrev pub corr_form_of : Signature → TermTree → Option Correspondence
-corr_form_of sig t = option_and_then (correspondence_form (constant_name t)) (declared_type sig (constant_name t))
+corr_form_of sig t =
+    option_and_then (correspondence_form (constant_name t)) (declared_type sig (constant_name t))
 
 -- the type constructors in a type
 abbrev mutual
@@ -58,7 +61,9 @@ comes_before c q (x ∷ xs) = not (same_name x q) && (same_name x c || comes_bef
 
 -- whether each constructor of the raw type was declared before that of the abstract one
 abbrev pub is_in_order : Signature → (raw abs : TypeTree) → Bool
-is_in_order sig raw abs = list_all (λ c. comes_before c (constructor_name abs) (map (λ p. p.0) sig.types)) (constructors_in raw)
+is_in_order sig raw abs =
+    list_all (λ c. comes_before c (constructor_name abs) (map (λ p. p.0) sig.types))
+    (constructors_in raw)
 
 -- whether a type is a variable
 abbrev pub is_variable : TypeTree → Bool
@@ -75,11 +80,27 @@ quotient_test holds part = wrong_where (not holds) (not_quotient part)
 
 -- the entry of a theorem with this label
 abbrev pub entry_of_theorem : Chars → QuotientTheorem → QuotientEntry
-entry_of_theorem l t = record { con = constructor_name t.abs; label = l; abs_type = t.abs; raw_type = t.raw; four = t.four; of_typedef = false }
+entry_of_theorem l t =
+    record {
+      con = constructor_name t.abs;
+      label = l;
+      abs_type = t.abs;
+      raw_type = t.raw;
+      four = t.four;
+      of_typedef = false;
+    }
 
 -- the entry of a quotient whose theorem the block adds
 abbrev pub new_entry : Chars → (raw abs : TypeTree) → Four → Bool → QuotientEntry
-new_entry q raw abs four of_typedef = record { con = q; label = quotient_label q; abs_type = abs; raw_type = raw; four = four; of_typedef = of_typedef }
+new_entry q raw abs four of_typedef =
+    record {
+      con = q;
+      label = quotient_label q;
+      abs_type = abs;
+      raw_type = raw;
+      four = four;
+      of_typedef = of_typedef;
+    }
 
 -- \x. R x x
 abbrev pub self_related : TypeTree → WithType → WithType
@@ -90,19 +111,24 @@ abbrev pub tail_block : QuotientEntry → WithType → List Addition
 tail_block e domain = let T : WithType = e.four.corr in
     lemma_of (right_total_label e.con) (apply "right_total" (T ∷ []))
     ∷ lemma_of (right_unique_label e.con) (apply "right_unique" (T ∷ []))
-    ∷ lemma_of (rel_label e.con) (rel_fun T (rel_fun T (equality_at bool)) · e.four.rel · equality_at e.abs_type)
+    ∷ lemma_of (rel_label e.con)
+    (rel_fun T (rel_fun T (equality_at bool)) · e.four.rel · equality_at e.abs_type)
     ∷ lemma_of (domain_label e.con) (domainp T ≐ domain) ∷ []
 
 -- a property of the correspondence, by a lemma without premises
 abbrev pub corr_property : Chars → Property → QuotientEntry → Registration
-corr_property l p e = property_registered (record { label = l; property = p; head = constant_name e.four.corr.term; premises = [] })
+corr_property l p e =
+    property_registered
+    (record { label = l; property = p; head = constant_name e.four.corr.term; premises = [] })
 
--- What a tail block registers: the correspondence, the quotient, the two properties, the rule and the domain equation.
+-- What a tail block registers: the correspondence, the quotient, the two properties, the rule and
+-- the domain equation.
 abbrev pub tail_registrations : QuotientEntry → Correspondence → WithType → List Registration
 tail_registrations e d domain =
     corr_registered d
     ∷ quotient_registered e
-    ∷ corr_property (right_total_label e.con) right_total e ∷ corr_property (right_unique_label e.con) right_unique e
+    ∷ corr_property (right_total_label e.con) right_total e
+    ∷ corr_property (right_unique_label e.con) right_unique e
     ∷ rule_registered (rel_label e.con)
     ∷ domain_registered (record {
       label = domain_label e.con;
@@ -114,7 +140,13 @@ tail_registrations e d domain =
 
 -- the correspondence that a definition adds
 abbrev pub new_corr : QuotientEntry → Correspondence
-new_corr e = record { name = corr_name e.con; raw = e.raw_type; con = e.con; parameters = type_variables e.abs_type }
+new_corr e =
+    record {
+      name = corr_name e.con;
+      raw = e.raw_type;
+      con = e.con;
+      parameters = type_variables e.abs_type;
+    }
 
 -- whether R has no type variable that T lacks
 abbrev pub has_variables_of : (R T : WithType) → Bool

@@ -1,5 +1,6 @@
 -- The four terms of a quotient, and the quotients along a function's type.
--- Source: the quotient theorems of functions, of relators and of composition as in Huffman and Kunčar.
+-- Source: the quotient theorems of functions, of relators and of composition as in Huffman and
+-- Kunčar.
 use Rattle.std.specs.Prelude.{List, [], ◌∷◌, if◌then◌else◌, map, codes, unwrap_or, option_map}
 use Rattle.lt_definitions.specs.Types.{Chars, same_name, TypeTree, TypeMap, type_instance}
 use Rattle.lt_definitions.specs.Terms.{term_instance}
@@ -25,9 +26,23 @@ four_at e ts = let m : TypeMap = entry_map e ts in record {
   corr = instance_with_type m e.four.corr;
 }
 
+-- the abstract type between which and the raw type a quotient's functions go
+abbrev pub abs_type_of : Four → TypeTree
+abs_type_of q = domain_type q.rep.ty
+
+-- the raw type
+abbrev pub raw_type_of : Four → TypeTree
+raw_type_of q = domain_type q.abs.ty
+
 -- eq, id, id and eq
 abbrev pub identity_four : TypeTree → Four
-identity_four t = record { rel = equality_at t; abs = table_constant "id" (t ∷ []); rep = table_constant "id" (t ∷ []); corr = equality_at t }
+identity_four t =
+    record {
+      rel = equality_at t;
+      abs = table_constant "id" (t ∷ []);
+      rep = table_constant "id" (t ∷ []);
+      corr = equality_at t;
+    }
 
 -- a constructor's relator over relations
 abbrev pub by_relator : Registry → Chars → List WithType → WithType
@@ -58,7 +73,8 @@ plain_relator_four G K qs = record {
 
 -- over quotients of arguments, that of a constructor with a relator
 abbrev pub relator_four : Registry → Chars → List Four → Four
-relator_four G K (q ∷ r ∷ []) = if same_name K (codes "fun") then function_four q r else plain_relator_four G K (q ∷ r ∷ [])
+relator_four G K (q ∷ r ∷ []) =
+    if same_name K (codes "fun") then function_four q r else plain_relator_four G K (q ∷ r ∷ [])
 relator_four G K qs = plain_relator_four G K qs
 
 -- a quotient behind another
@@ -85,11 +101,13 @@ abbrev mutual
 
 -- the quotients of the arguments, as long as there are function cases along the result
 abbrev pub argument_quotients : Quot → List Quot
-argument_quotients (relator_quotient K (quot_and q (quot_and r no_quots))) = if same_name K (codes "fun") then q ∷ argument_quotients r else []
+argument_quotients (relator_quotient K (quot_and q (quot_and r no_quots))) =
+    if same_name K (codes "fun") then q ∷ argument_quotients r else []
 argument_quotients q = []
 
 -- the quotient of the result behind them
 abbrev pub result_quotient : Quot → Quot
 result_quotient (relator_quotient K (quot_and q (quot_and r no_quots))) =
-    if same_name K (codes "fun") then result_quotient r else relator_quotient K (quot_and q (quot_and r no_quots))
+    if same_name K (codes "fun") then result_quotient r
+    else relator_quotient K (quot_and q (quot_and r no_quots))
 result_quotient q = q

@@ -1,18 +1,19 @@
--- What is written of a walk: a report of its items, or their summary, and the line on the first thing that is refused.
+-- What is written of a walk: a report of its items, or their summary, and the line on the first
+-- thing that is refused.
 -- Source: this project's own.
-use Rattle.std.specs.Prelude.{ℕ, List, [], ◌++◌, Bool, true, false, filter, Option, Some, None, codes, encode_utf8_all}
+use Rattle.std.specs.Prelude.{ℕ, List, [], ◌++◌, Bool, true, false, Option, Some, None, codes, encode_utf8_all}
 use Rattle.lt_texts.specs.Walks.{plain_limit}
 use Rattle.lt_definitions.specs.Types.{Chars}
 use Rattle.lt_definitions.specs.Items.{Item}
 use Rattle.lt_definitions.specs.Theory.{Refusal}
-use Rattle.lt_definitions.specs.Printing.{report, summary_lines, is_axiom, count_line}
+use Rattle.lt_definitions.specs.Printing.{report, summary_lines, count_line}
 use Rattle.lt_transport_definitions.specs.Commands.{CommandRefusal, as_item}
 use Rattle.lt_transport_definitions.specs.RefusalTexts.{printed_refusal}
 use Rattle.lt_transport_definitions.specs.Places.{File, InFile, in_file, printed_place, first_past}
 use Rattle.lt_transport_definitions.specs.TheoryWalks.{Unread, bad_byte, bad_char, bad_header, bad_command, bad_syntax, End, too_long, no_header, unread_at, refused_at, accepted, theory_limit}
 
--- The summary: a line for each item, and behind a text that was accepted the line of counts. Where the header is wrong, or the text too
--- long, it is empty.
+-- The summary: a line for each item, and behind a text that was accepted the line of counts. Where
+-- the header is wrong, or the text too long, it is empty.
 abbrev pub summary_of : {R : Type 0} → List Item → End R → Chars
 summary_of items too_long = []
 summary_of items (no_header why place) = []
@@ -46,8 +47,10 @@ line_about (Some p) what = printed_place p ++ (codes ": " ++ (encode_utf8_all wh
 -- The line on the second sink, given how a refusal prints and how many bytes a text may have.
 abbrev pub end_line : {R : Type 0} → (R → Chars) → (most : ℕ) → List File → End R → List ℕ
 end_line prints most files too_long = first_past files most ++ codes ": TooLong\n"
-end_line prints most files (no_header why place) = line_about (in_file files place) (unread_word why)
-end_line prints most files (unread_at why place) = line_about (in_file files place) (unread_word why)
+end_line prints most files (no_header why place) =
+    line_about (in_file files place) (unread_word why)
+end_line prints most files (unread_at why place) =
+    line_about (in_file files place) (unread_word why)
 end_line prints most files (refused_at r place) = line_about (in_file files place) (prints r)
 end_line prints most files accepted = []
 
@@ -58,7 +61,3 @@ run_line files end = end_line printed_refusal theory_limit files end
 -- that of `check`
 abbrev pub check_line : List File → End Refusal → List ℕ
 check_line files end = end_line (λ r. printed_refusal (as_item r)) plain_limit files end
-
--- the axioms among items
-abbrev pub axioms_of : List Item → List Item
-axioms_of items = filter is_axiom items

@@ -8,48 +8,78 @@ ghost use Rattle.lt_transport_definitions.specs.Relations.{right_total};
 ghost use Rattle.lt_transport_definitions.specs.Forms.{property_head};
 ghost use Rattle.lt_transport_definitions.specs.RuleForm.{rule_prefix, rule_head, rule_relation, rule_types};
 ghost use Rattle.lt_transport_definitions.specs.RelatorForm.{relator_eq};
+ghost use Rattle.lt_transport_definitions.specs.Reduction.{as_printed};
 ghost use Rattle.lt_transport_definitions.specs.Commands.{relator_command, property_command, domain_command, rule_command, lifting_command, lifting_typedef_command, quotient_type_command, lift_command, parametric_command, param_rule_command, equiv_command, implies_command, carry_command, abs_eq_command, rep_eq_command, as_item, missing_law, relator_shape, property_shape, domain_shape, rule_shape, duplicate_property, duplicate_domain, not_quotient, quotient_shape, quotient_abstract, quotient_relation, quotient_order, bare_parameter, not_parametric, not_parametric_at, no_quotient, respect_differs, image_differs, higher_order_argument, no_rep_equation};
 ghost use Rattle.lt_transport_definitions.specs.Blocks.{ComesOf};
-ghost use Rattle.lt_transport_definitions.specs.Samples.{over_typedef_t, list_relator, AddsLines};
-ghost use Rattle.lt_transport_definitions.specs.RefusalSamples.{over_boxes, over_correspondence, over_quotient_of_box, over_form, over_quotient_of_nat, over_lists, over_relator, lawless, cup, box};
+ghost use Rattle.lt_transport_definitions.specs.Samples.{over_typedef_t, without_laws, list_relator, AddsLines};
+ghost use Rattle.lt_transport_definitions.specs.RefusalSamples.{over_boxes, lawless_boxes, over_few_laws, over_correspondence, over_quotient_of_box, over_transport, over_form, over_quotient_of_t, over_lists, over_relator, cup, box};
 
 /// The first law that a command asks for and that isn't registered.
 pub fn missing_laws()
-    ensures rule { ComesOf (lawless over_boxes) (rule_command (codes "eq_transfer")) (Err (missing_law (codes "bi_unique_eq"))) }
-    ensures lifting { ComesOf (lawless over_boxes) (lifting_command (codes "Pz")) (Err (missing_law (codes "quotient_right_total"))) }
-    ensures typedef { ComesOf (lawless over_typedef_t) (lifting_typedef_command (codes "t")) (Err (missing_law (codes "typedef_quotient"))) }
-    ensures quotient { ComesOf (lawless over_boxes) (quotient_type_command (codes "n") [] (con "P") (codes "Pz")) (Err (missing_law (codes "class_nonempty"))) }
-    ensures parametric { ComesOf (lawless over_boxes) (parametric_command (codes "box")) (Err (missing_law (codes "rel_fun_eq"))) }
-    ensures param_rule { ComesOf (lawless over_boxes) (param_rule_command (codes "n") (codes "Pz") (codes "Pz")) (Err (missing_law (codes "rel_fun_app"))) }
-    ensures equiv { ComesOf (lawless over_boxes) (equiv_command (codes "n") falsity) (Err (missing_law (codes "rel_fun_app"))) }
-    ensures implies { ComesOf (lawless over_boxes) (implies_command (codes "n") falsity) (Err (missing_law (codes "rel_fun_app"))) }
-    ensures abs_eq { ComesOf (lawless over_quotient_of_box) (abs_eq_command (codes "empty")) (Err (missing_law (codes "id_quotient"))) }
-    ensures rep_eq { ComesOf (lawless over_quotient_of_box) (rep_eq_command (codes "empty")) (Err (missing_law (codes "id_quotient"))) }
+    ensures rule { ComesOf lawless_boxes (rule_command (codes "eq_transfer"))
+        (Err (missing_law (codes "bi_unique_eq"))) }
+    ensures lifting { ComesOf lawless_boxes (lifting_command (codes "Pz"))
+        (Err (missing_law (codes "quotient_right_total"))) }
+    ensures typedef { ComesOf without_laws (lifting_typedef_command (codes "t"))
+        (Err (missing_law (codes "typedef_quotient"))) }
+    ensures quotient { ComesOf lawless_boxes
+        (quotient_type_command (codes "n") [] (con "P") (codes "Pz"))
+        (Err (missing_law (codes "class_nonempty"))) }
+    ensures parametric { ComesOf lawless_boxes (parametric_command (codes "box"))
+        (Err (missing_law (codes "rel_fun_eq"))) }
+    ensures param_rule { ComesOf lawless_boxes
+        (param_rule_command (codes "n") (codes "Pz") (codes "Pz"))
+        (Err (missing_law (codes "rel_fun_app"))) }
+    ensures equiv { ComesOf lawless_boxes (equiv_command (codes "n") falsity)
+        (Err (missing_law (codes "rel_fun_app"))) }
+    ensures implies { ComesOf lawless_boxes (implies_command (codes "n") falsity)
+        (Err (missing_law (codes "rel_fun_app"))) }
+    ensures abs_eq { ComesOf over_few_laws (abs_eq_command (codes "lifted"))
+        (Err (missing_law (codes "quotient_rep"))) }
+    ensures rep_eq { ComesOf over_few_laws (rep_eq_command (codes "lifted"))
+        (Err (missing_law (codes "quotient_rep"))) }
 {}
 
 /// What is registered already.
 pub fn registered_already()
-    ensures relator { ComesOf over_relator (relator_command list_relator) (Err (as_item (duplicate (codes "list")))) }
-    ensures property { ComesOf over_correspondence (property_command (codes "T_right")) (Err (duplicate_property right_total (codes "T"))) }
-    ensures domain { ComesOf over_correspondence (domain_command (codes "T_domain")) (Err (duplicate_domain (codes "T"))) }
-    ensures lifting { ComesOf over_quotient_of_box (lifting_command (codes "Q_box")) (Err (as_item (duplicate (codes "box")))) }
-    ensures typedef { ComesOf over_quotient_of_box (lifting_typedef_command (codes "box")) (Err (as_item (duplicate (codes "box")))) }
-    ensures quotient { ComesOf over_quotient_of_box (quotient_type_command (codes "box") [] (con "P") (codes "Pz")) (Err (as_item (duplicate (codes "box")))) }
-    ensures parametric { ComesOf over_form (parametric_command (codes "box")) (Err (as_item (duplicate (codes "box")))) }
+    ensures relator { ComesOf over_relator (relator_command list_relator)
+        (Err (as_item (duplicate (codes "list")))) }
+    ensures property { ComesOf over_correspondence (property_command (codes "T_right"))
+        (Err (duplicate_property right_total (codes "T"))) }
+    ensures domain { ComesOf over_correspondence (domain_command (codes "T_domain"))
+        (Err (duplicate_domain (codes "T"))) }
+    ensures lifting { ComesOf over_quotient_of_box (lifting_command (codes "Q_box"))
+        (Err (as_item (duplicate (codes "box")))) }
+    ensures typedef { ComesOf over_quotient_of_box (lifting_typedef_command (codes "box"))
+        (Err (as_item (duplicate (codes "box")))) }
+    ensures quotient { ComesOf over_quotient_of_box
+        (quotient_type_command (codes "box") [] (con "P") (codes "Pz"))
+        (Err (as_item (duplicate (codes "box")))) }
+    ensures parametric { ComesOf over_form (parametric_command (codes "arr"))
+        (Err (as_item (duplicate (codes "arr")))) }
 {}
 
 /// Names that there are already.
 pub fn names_that_are_there()
-    ensures quotient { ComesOf over_boxes (quotient_type_command (codes "cup") [] (con "P") (codes "Pz")) (Err (as_item (duplicate (codes "cup")))) }
-    ensures param_rule { ComesOf over_boxes (param_rule_command (codes "Pz") (codes "Pz") (codes "Pz")) (Err (as_item (duplicate (codes "Pz")))) }
-    ensures equiv { ComesOf over_boxes (equiv_command (codes "Pz") falsity) (Err (as_item (duplicate (codes "Pz")))) }
-    ensures carry { ComesOf over_quotient_of_box (carry_command (codes "Pz") (codes "zz") (codes "Pz")) (Err (as_item (duplicate (codes "Pz")))) }
+    ensures quotient { ComesOf over_boxes
+        (quotient_type_command (codes "cup") [] (con "P") (codes "Pz"))
+        (Err (as_item (duplicate (codes "cup")))) }
+    ensures param_rule { ComesOf over_boxes
+        (param_rule_command (codes "Pz") (codes "Pz") (codes "Pz"))
+        (Err (as_item (duplicate (codes "Pz")))) }
+    ensures equiv { ComesOf over_boxes (equiv_command (codes "Pz") falsity)
+        (Err (as_item (duplicate (codes "Pz")))) }
+    ensures carry { ComesOf over_transport (carry_command (codes "Pz") (codes "same") (codes "Pz"))
+        (Err (as_item (duplicate (codes "Pz")))) }
 {}
 
 /// Statements that haven't the form, and forms that are registered.
 pub fn other_forms()
-    ensures relator { ComesOf over_lists (relator_command (record list_relator { eq = codes "list_comp" })) (Err (relator_shape relator_eq)) }
-    ensures property { ComesOf over_boxes (property_command (codes "Pz")) (Err (property_shape property_head)) }
+    ensures relator { ComesOf over_lists
+        (relator_command (record list_relator { eq = codes "list_comp" }))
+        (Err (relator_shape relator_eq)) }
+    ensures property { ComesOf over_boxes (property_command (codes "Pz"))
+        (Err (property_shape property_head)) }
     ensures domain { ComesOf over_boxes (domain_command (codes "Pz")) (Err domain_shape) }
     ensures relator_there { AddsLines over_lists (relator_command list_relator) [] }
     ensures domain_there { AddsLines over_boxes (rule_command (codes "eq_transfer")) [] }
@@ -57,11 +87,16 @@ pub fn other_forms()
 
 /// The tests of a quotient's theorem, in their order.
 pub fn other_quotients()
-    ensures shape { ComesOf over_boxes (lifting_command (codes "Pz")) (Err (not_quotient quotient_shape)) }
-    ensures abstract_type { ComesOf over_boxes (lifting_command (codes "Q_nat")) (Err (not_quotient quotient_abstract)) }
-    ensures relation { ComesOf over_boxes (lifting_command (codes "Q_term")) (Err (not_quotient quotient_relation)) }
-    ensures order { ComesOf over_boxes (lifting_command (codes "Q_late")) (Err (not_quotient quotient_order)) }
-    ensures bare { ComesOf over_boxes (lifting_command (codes "Q_bare")) (Err (bare_parameter (tyvar "a"))) }
+    ensures shape { ComesOf over_boxes (lifting_command (codes "Pz"))
+        (Err (not_quotient quotient_shape)) }
+    ensures abstract_type { ComesOf over_boxes (lifting_command (codes "Q_nat"))
+        (Err (not_quotient quotient_abstract)) }
+    ensures relation { ComesOf over_boxes (lifting_command (codes "Q_term"))
+        (Err (not_quotient quotient_relation)) }
+    ensures order { ComesOf over_boxes (lifting_command (codes "Q_late"))
+        (Err (not_quotient quotient_order)) }
+    ensures bare { ComesOf over_boxes (lifting_command (codes "Q_bare"))
+        (Err (bare_parameter (tyvar "a"))) }
     ensures lifted { AddsLines over_boxes (lifting_command (codes "Q_box")) (
         codes "lemma box_right_total : (right_total[(cup 'a) (box 'a)] T['a])\n"
         ++ (codes "lemma box_right_unique : (right_unique[(cup 'a) (box 'a)] T['a])\n"
@@ -71,31 +106,58 @@ pub fn other_quotients()
 
 /// The tests of quotient_type, in their order.
 pub fn other_relations()
-    ensures open { ComesOf over_boxes (quotient_type_command (codes "n") [] x (codes "Pz")) (Err (as_item open_term)) }
-    ensures relation { ComesOf over_boxes (quotient_type_command (codes "n") [] (con "P") (codes "Pz")) (Err (not_quotient quotient_relation)) }
-    ensures shape { ComesOf over_boxes (quotient_type_command (codes "n") [] (con_at "R" (tyvar "a" ∷ [])) (codes "Pz")) (Err (not_quotient quotient_shape)) }
-    ensures bare { ComesOf over_boxes (quotient_type_command (codes "n") [] (con_at "Rb" (tyvar "a" ∷ [])) (codes "Rb_per")) (Err (bare_parameter (tyvar "a"))) }
-    ensures loose { ComesOf over_boxes (quotient_type_command (codes "n") [] (con_at "R" (tyvar "a" ∷ [])) (codes "R_per")) (Err (as_item (loose_type_var (codes "a")))) }
-    ensures twice { ComesOf over_boxes (quotient_type_command (codes "n") (codes "a" ∷ codes "a" ∷ []) (con_at "R" (tyvar "a" ∷ [])) (codes "R_per")) (Err (as_item typedef_shape)) }
+    ensures open { ComesOf over_boxes (quotient_type_command (codes "n") [] x (codes "Pz"))
+        (Err (as_item open_term)) }
+    ensures relation { ComesOf over_boxes
+        (quotient_type_command (codes "n") [] (con "P") (codes "Pz"))
+        (Err (not_quotient quotient_relation)) }
+    ensures shape { ComesOf over_boxes
+        (quotient_type_command (codes "n") [] (con_at "R" (tyvar "a" ∷ [])) (codes "Pz"))
+        (Err (not_quotient quotient_shape)) }
+    ensures bare { ComesOf over_boxes
+        (quotient_type_command (codes "n") [] (con_at "Rb" (tyvar "a" ∷ [])) (codes "Rb_per"))
+        (Err (bare_parameter (tyvar "a"))) }
+    ensures loose { ComesOf over_boxes
+        (quotient_type_command (codes "n") [] (con_at "R" (tyvar "a" ∷ [])) (codes "R_per"))
+        (Err (as_item (loose_type_var (codes "a")))) }
+    ensures twice { ComesOf over_boxes
+        (quotient_type_command (codes "n") (codes "a" ∷ codes "a" ∷ [])
+        (con_at "R" (tyvar "a" ∷ [])) (codes "R_per")) (Err (as_item typedef_shape)) }
 {}
 
 /// The tests of parametric and of param_rule.
 pub fn other_parameters()
-    ensures none { ComesOf over_quotient_of_nat (parametric_command (codes "nat")) (Err (not_parametric (codes "nat"))) }
-    ensures subtype { ComesOf over_quotient_of_box (parametric_command (codes "box")) (Err (not_parametric_at (cup (tyvar "r1")))) }
-    ensures head { ComesOf over_boxes (param_rule_command (codes "n") (codes "Pz") (codes "Pz")) (Err (rule_shape rule_head)) }
-    ensures prefix { ComesOf over_boxes (param_rule_command (codes "n") (codes "eq_transfer") (codes "Pz")) (Err (rule_shape rule_prefix)) }
-    ensures argument { ComesOf over_correspondence (param_rule_command (codes "n") (codes "wv") (codes "Pz")) (Err (higher_order_argument 1)) }
-    ensures types { ComesOf over_correspondence (param_rule_command (codes "n") (codes "ne") (codes "Pz")) (Err (rule_shape rule_types)) }
-    ensures relation { ComesOf over_correspondence (param_rule_command (codes "n") (codes "zz") (codes "Pz")) (Err (rule_shape rule_relation)) }
+    ensures none { ComesOf over_quotient_of_t (parametric_command (codes "t"))
+        (Err (not_parametric (codes "t"))) }
+    ensures subtype { ComesOf over_quotient_of_box (parametric_command (codes "box"))
+        (Err (not_parametric_at (cup (tyvar "r1")))) }
+    ensures head { ComesOf over_boxes (param_rule_command (codes "n") (codes "Pz") (codes "Pz"))
+        (Err (rule_shape rule_head)) }
+    ensures prefix { ComesOf over_boxes
+        (param_rule_command (codes "n") (codes "eq_transfer") (codes "Pz"))
+        (Err (rule_shape rule_prefix)) }
+    ensures argument { ComesOf over_correspondence
+        (param_rule_command (codes "n") (codes "wv") (codes "Pz")) (Err (higher_order_argument 1)) }
+    ensures types { ComesOf over_correspondence
+        (param_rule_command (codes "n") (codes "ne") (codes "Pz")) (Err (rule_shape rule_types)) }
+    ensures relation { ComesOf over_correspondence
+        (param_rule_command (codes "n") (codes "zz") (codes "Pz"))
+        (Err (rule_shape rule_relation)) }
 {}
 
 /// The tests of lift, of code equations and of carry.
 pub fn other_lifts()
-    ensures quotient { ComesOf over_typedef_t (lift_command (codes "n") (type_of_args "t" []) (con "z") (codes "Pz")) (Err (no_quotient (type_of_args "t" []) nat)) }
-    ensures loose { ComesOf over_typedef_t (lift_command (codes "n") bool (all_equal (tyvar "a")) (codes "Pz")) (Err (as_item (loose_type_var (codes "a")))) }
-    ensures respect { ComesOf over_typedef_t (lift_command (codes "n") nat (con "z") (codes "Pz")) (Err (respect_differs (app (app (con_at "eq" (nat ∷ [])) (con "z")) (con "z")))) }
-    ensures equation { ComesOf over_quotient_of_box (rep_eq_command (codes "empty")) (Err (no_rep_equation (box (tyvar "a")))) }
-    ensures image { ComesOf over_quotient_of_box (carry_command (codes "n") (codes "zz") (codes "Pz")) (Err (image_differs falsity)) }
+    ensures quotient { ComesOf over_typedef_t
+        (lift_command (codes "n") (type_of_args "t" []) (con "z") (codes "Pz"))
+        (Err (no_quotient (type_of_args "t" []) nat)) }
+    ensures loose { ComesOf over_typedef_t
+        (lift_command (codes "n") bool (all_equal (tyvar "a")) (codes "Pz"))
+        (Err (as_item (loose_type_var (codes "a")))) }
+    ensures respect { ComesOf over_typedef_t (lift_command (codes "n") nat (con "z") (codes "Pz"))
+        (Err (respect_differs (app (app (con_at "eq" (nat ∷ [])) (con "z")) (con "z")))) }
+    ensures equation { ComesOf over_quotient_of_box (rep_eq_command (codes "lifted"))
+        (Err (no_rep_equation (box (tyvar "a")))) }
+    ensures image { ComesOf over_transport (carry_command (codes "n") (codes "same") (codes "Pz"))
+        (Err (image_differs (as_printed [] falsity))) }
     ensures open { ComesOf over_boxes (equiv_command (codes "n") x) (Err (as_item open_term)) }
 {}

@@ -1,5 +1,5 @@
 -- Steps with two free variables exchanged: which new variable a body is opened by doesn't matter.
-use Rattle.std.specs.Prelude.{◌≡◌, List, ◌∷◌, [], Bool, true, false, ◌||◌, ◌&&◌, not, if◌then◌else◌}
+use Rattle.std.specs.Prelude.{◌≡◌, List, ◌∷◌, [], Bool, true, false, ◌||◌, ◌&&◌, if◌then◌else◌}
 use Rattle.std.proofs.Common.{refl, subst, sym, ap, ◌∙◌, inl, inr}
 use Rattle.lt_definitions.specs.Types.{Chars, same_name, TypeTree, same_type}
 use Rattle.lt_definitions.specs.Terms.{TermTree, free_variable, bound_name, constant, application, abstraction, has_free}

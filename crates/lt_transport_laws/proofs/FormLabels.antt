@@ -1,12 +1,12 @@
 -- The label of what is registered by a form is that of its statement.
-use Rattle.std.specs.Prelude.{◌≡◌, List, Bool, true, false, Option, Some, None, Result, Ok, Err, option_and_then, if◌then◌else◌}
+use Rattle.std.specs.Prelude.{◌≡◌, Bool, true, false, Option, Some, None, Result, Ok, option_and_then, if◌then◌else◌}
 use Rattle.std.specs.List.{list_all}
-use Rattle.std.proofs.Common.{refl, subst, sym, ap, ◌∙◌}
+use Rattle.std.proofs.Common.{refl, subst, sym, ap}
 use Rattle.lt_definitions.specs.Types.{Chars, has_name}
 use Rattle.lt_definitions.specs.Terms.{TermTree, term_names}
 use Rattle.lt_definitions.specs.Typing.{Signature}
 use Rattle.lt_definitions.specs.Rules.{as_equation}
-use Rattle.lt_transport_definitions.specs.Relations.{Registry, PropertyRule, DomainRule, RelationVariable}
+use Rattle.lt_transport_definitions.specs.Relations.{Registry, PropertyRule, DomainRule}
 use Rattle.lt_transport_definitions.specs.Answers.{needs}
 use Rattle.lt_transport_definitions.specs.Reading.{body_of, prefix_of}
 use Rattle.lt_transport_definitions.specs.Forms.{PropertyPart, property_prefix, property_premise, property_head, premises_of, conclusion_of, all_sides, property_of_head, property_form, domain_head, domain_equation, domain_form}

@@ -1,10 +1,10 @@
 -- A session in step gives one in step.
-use Rattle.std.specs.Prelude.{◌≡◌, ◌⊎◌, List, [], ◌∷◌, ◌++◌, Bool, true, ◌&&◌, Option, Some, None, Result, Ok, Err, map, fold, option_map, option_to_list, is_some}
+use Rattle.std.specs.Prelude.{◌≡◌, ◌⊎◌, List, [], ◌∷◌, ◌++◌, ◌&&◌, Option, Some, None, map, fold, option_map, option_to_list, is_some}
 use Rattle.std.specs.List.{flat_map}
 use Rattle.std.proofs.Common.{refl, subst, sym, ap, ◌∙◌, inl, inr}
 use Rattle.lt_definitions.specs.Types.{Chars, same_name, TypeTree}
 use Rattle.lt_definitions.specs.Terms.{TermTree}
-use Rattle.lt_definitions.specs.Items.{def_item, Context, definition_label}
+use Rattle.lt_definitions.specs.Items.{def_item, Context}
 use Rattle.lt_transport_definitions.specs.Notation.{WithType, ◌·◌}
 use Rattle.lt_transport_definitions.specs.Relations.{Relator, PropertyRule, DomainRule, same_property}
 use Rattle.lt_transport_definitions.specs.Answers.{value_of, first_wrong}
@@ -187,7 +187,7 @@ context-one s (quotient_registered e) = refl
 context-one s (lifted_registered e) = refl
 context-one s (transport_registered e) = refl
 
-context-kept : (s : Session) (rs : List Registration) → (fold with_registration s rs).context ≡ s.context
+pub context-kept : (s : Session) (rs : List Registration) → (fold with_registration s rs).context ≡ s.context
 context-kept s [] = refl
 context-kept s (r ∷ rs) = context-kept (with_registration s r) rs ∙ context-one s r
 
@@ -283,7 +283,7 @@ in-rows s (rule_command l) = λ t e rule f n. ((found-known s [] l t e, tt), tt)
 in-rows s (lifting_command l) = λ t e n quot f m x g o p q u v. (tt, ((inl (ap is_some e), tt), ((inr (inl refl), tt), ((inr (inr (inl refl)), tt), ((inr (inr (inr (inl refl))), tt), ((inr (inr (inr (inr (inl refl)))), tt), tt))))))
 in-rows s (lifting_typedef_command q) = λ n t e m. ((inr (inr (inr (inl refl))), tt), (tt, ((inr (inr (inl refl)), tt), ((inr (inr (inr (inr (inl refl)))), tt), ((inr (inr (inr (inr (inr (inl refl))))), tt), ((inr (inr (inr (inr (inr (inr (inl refl)))))), tt), ((inr (inr (inr (inr (inr (inr (inr (inl refl))))))), tt), tt)))))))
 in-rows s (quotient_type_command q params r l) = λ t e n m o p u v w. (tt, ((inr (inr (inr (inr (inr (inr (inl refl)))))), tt), ((inr (inr (inr (inr (inr (inr (inr (inl refl))))))), tt), ((inr (inr (inr (inr (inr (inr (inr (inr (inl refl)))))))), tt), ((inr (inr (inr (inr (inr (inr (inr (inr (inr (inl refl))))))))), tt), ((inr (inr (inr (inr (inr (inr (inr (inr (inr (inr (inl refl)))))))))), tt), tt))))))
-in-rows s (lift_command n ty t l) = λ respects e m o q p u. lifted-known s n ty (with_its_type s t) l (four_of s.registry q) (ap is_some e)
+in-rows s (lift_command n ty t l) = λ respects e m o q p u. lifted-known s n ty (with_its_type (signature_of s) t) l (four_of s.registry q) (ap is_some e)
 in-rows s (parametric_command q) = λ n e f m o. ((inr (inr (inl refl)), (inr (inl refl), tt)), tt)
 in-rows s (param_rule_command n l m) = λ t e u f o rule g p q v w. ((inr (inl refl), tt), tt)
 in-rows s (equiv_command n t) = λ e f g image h normal. ((inr (inl refl), tt), tt)

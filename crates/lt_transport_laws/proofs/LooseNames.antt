@@ -1,10 +1,10 @@
 -- Bound names without a binder: opening takes one away, and a step brings none.
-use Rattle.std.specs.Prelude.{◌≡◌, List, [], ◌∷◌, Bool, true, false, ◌||◌, ◌&&◌, not, if◌then◌else◌}
-use Rattle.std.proofs.Common.{refl, subst, sym, ap, ◌∙◌, inl, inr}
+use Rattle.std.specs.Prelude.{◌≡◌, Bool, true, false, ◌||◌, ◌&&◌, not}
+use Rattle.std.proofs.Common.{refl, sym, ap, ◌∙◌, inl, inr}
 use Rattle.lt_definitions.specs.Types.{Chars, same_name, TypeTree}
 use Rattle.lt_definitions.specs.Terms.{TermTree, free_variable, bound_name, constant, application, abstraction, has_loose, HasNoLooseNames}
 use Rattle.lt_definitions.specs.Binding.{opened, Closes}
-use Rattle.lt_definitions.proofs.SameNames.{bool_cases, name-true, true-name, name-false, false-name}
+use Rattle.lt_definitions.proofs.SameNames.{bool_cases, name-true, name-false, false-name}
 use Rattle.lt_nameless.proofs.BindingLemmas.{if-true, if-false}
 use Rattle.lt_nameless.proofs.AlphaLaws.{alpha_keeps_loose_names}
 use Rattle.lt_transport_definitions.specs.Reduction.{Steps, opens, in_head, in_argument, in_body}

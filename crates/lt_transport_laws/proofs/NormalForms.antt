@@ -1,8 +1,8 @@
 -- A term has one step, one normal form and one limit, up to alpha equality.
-use Rattle.std.specs.Prelude.{◌≡◌, ◌⊎◌, ℕ, zero, suc, ◌<◌, List, [], ◌∷◌, Bool, true, false}
+use Rattle.std.specs.Prelude.{◌≡◌, ◌⊎◌, ℕ, zero, suc, ◌<◌, [], false}
 use Rattle.std.proofs.Common.{refl, subst, sym, ap, ◌∙◌, inl, inr, arith}
 use Rattle.lt_definitions.specs.Types.{Chars, TypeTree}
-use Rattle.lt_definitions.specs.Terms.{TermTree, free_variable, application, abstraction, has_free, HasNoLooseNames, term_nodes}
+use Rattle.lt_definitions.specs.Terms.{TermTree, free_variable, abstraction, has_free, HasNoLooseNames}
 use Rattle.lt_definitions.specs.Alpha.{AreAlpha, IsAlphaEqual}
 use Rattle.lt_definitions.specs.Binding.{opened, Closes}
 use Rattle.lt_nameless.proofs.AlphaLaws.{alpha_is_reflexive, alpha_is_symmetric, alpha_is_transitive, alpha_keeps_free_variables, alpha_kept_by_opening, alpha_kept_by_closing}

@@ -1,5 +1,5 @@
 -- One outcome comes of each transport.
-use Rattle.std.specs.Prelude.{◌≡◌, ◌⊎◌, ℕ, zero, suc, List, [], ◌∷◌, ◌++◌, codes, Bool, true, false, ◌||◌, ◌&&◌, not, if◌then◌else◌, Option, Some, None, Result, Ok, Err, map, filter, slice_get, option_map}
+use Rattle.std.specs.Prelude.{◌≡◌, ℕ, zero, suc, List, [], ◌∷◌, ◌++◌, codes, Bool, true, false, ◌||◌, ◌&&◌, not, Option, Some, None, Result, Ok, Err, map, filter, slice_get}
 use Rattle.std.specs.List.{zip}
 use Rattle.std.proofs.Common.{refl, subst, sym, ap, ◌∙◌, inl, inr, arith}
 use Rattle.std.proofs.lemmas.Option.{slice_get_past}
@@ -12,20 +12,20 @@ use Rattle.lt_nameless.proofs.BindingLemmas.{if-true, if-false}
 use Rattle.lt_nameless.proofs.Typings.{typed-has}
 use Rattle.lt_nameless.proofs.TypeLaws.{typed_terms_have_no_loose_names}
 use Rattle.lt_transport_definitions.specs.Constants.{is_counted}
-use Rattle.lt_transport_definitions.specs.Relations.{Relation, Registry, DomainRule}
+use Rattle.lt_transport_definitions.specs.Relations.{Registry, DomainRule}
 use Rattle.lt_transport_definitions.specs.RelationTerms.{meaning_of}
 use Rattle.lt_transport_definitions.specs.Answers.{first_wrong}
 use Rattle.lt_transport_definitions.specs.RuleForm.{TransferRule}
-use Rattle.lt_transport_definitions.specs.Candidates.{match_of, fits, candidates}
+use Rattle.lt_transport_definitions.specs.Candidates.{match_of, fits}
 use Rattle.lt_transport_definitions.specs.Correspondence.{ChosenStatement, chosen_name, chosen_rule, chosen_equality, not_chosen, chosen_application, chosen_abstraction, Assignment, statement_of, AreCandidates, left_types, image_of}
-use Rattle.lt_transport_definitions.specs.Search.{Top, equal, implied, Question, Solution, image_by, HasMoreVisits, HasImage, HasNoImage}
-use Rattle.lt_transport_definitions.specs.Reduction.{IsNormalForm, IsNormLimit, as_printed}
+use Rattle.lt_transport_definitions.specs.Search.{Top, equal, implied, Question, HasImage}
+use Rattle.lt_transport_definitions.specs.Reduction.{as_printed}
 use Rattle.lt_transport_definitions.specs.Sessions.{Session, rules_now}
-use Rattle.lt_transport_definitions.specs.Commands.{Command, item_command, law_command, corr_command, relator_command, property_command, domain_command, rule_command, lifting_command, lifting_typedef_command, quotient_type_command, lift_command, parametric_command, param_rule_command, equiv_command, implies_command, carry_command, abs_eq_command, rep_eq_command, CommandRefusal, norm_limit, Addition, a_lemma, Registration, transport_registered}
+use Rattle.lt_transport_definitions.specs.Commands.{item_command, law_command, corr_command, relator_command, property_command, domain_command, rule_command, lifting_command, lifting_typedef_command, quotient_type_command, lift_command, parametric_command, param_rule_command, equiv_command, implies_command, carry_command, abs_eq_command, rep_eq_command, CommandRefusal, norm_limit, Addition, a_lemma, Registration, transport_registered}
 use Rattle.lt_transport_definitions.specs.Rows.{BlockOutcome, Row, ◌⊳◌, with_image, with_normal_form, adds, item_test, law_test}
 use Rattle.lt_transport_definitions.specs.Parts.{registration_test, name_test, names_added}
 use Rattle.lt_transport_definitions.specs.TransportRows.{question_of, laws_asked, size_test, transported, is_implied, adds_transport, transport_row}
-use Rattle.lt_transport_definitions.specs.Blocks.{Unless, ComesOfRow, ComesOf}
+use Rattle.lt_transport_definitions.specs.Blocks.{Unless, ComesOfRow}
 use Rattle.lt_transport_laws.specs.Statements.{IsRegistry}
 use Rattle.lt_transport_laws.specs.SessionStatements.{AreScopedDomains, IsScopedSession, EachOutcomeIsOne}
 use Rattle.lt_transport_laws.proofs.Rows.{AllOf}

@@ -1,13 +1,11 @@
 -- A command leads to one session, and a walk over commands has one end.
-use Rattle.std.specs.Prelude.{◌≡◌, ◌⊎◌, ℕ, List, [], ◌∷◌, Option, Some, None, Result, Ok, Err}
-use Rattle.std.proofs.Common.{refl, subst, sym, ap, ◌∙◌, inl, inr}
-use Rattle.lt_definitions.specs.Items.{Item}
+use Rattle.std.specs.Prelude.{◌≡◌, [], ◌∷◌, Some, None, Ok, Err}
+use Rattle.std.proofs.Common.{subst, sym, ap, ◌∙◌, inl, inr}
 use Rattle.lt_transport_definitions.specs.Sessions.{Session}
-use Rattle.lt_transport_definitions.specs.Commands.{Command, CommandRefusal, Block, session_behind}
+use Rattle.lt_transport_definitions.specs.Commands.{CommandRefusal, Block, session_behind}
 use Rattle.lt_transport_definitions.specs.Rows.{BlockOutcome}
-use Rattle.lt_transport_definitions.specs.Blocks.{Gives}
-use Rattle.lt_transport_definitions.specs.TheoryWalks.{Placed, Unread, End, refused_at, place_of, WalksOver, theory_commands, line_of_command}
-use Rattle.lt_transport_laws.specs.SessionStatements.{IsScopedSession, SessionsAreOne, AreScopedAlong, WalksAreOne}
+use Rattle.lt_transport_definitions.specs.TheoryWalks.{refused_at, place_of, WalksOver, theory_commands, line_of_command}
+use Rattle.lt_transport_laws.specs.SessionStatements.{SessionsAreOne, WalksAreOne}
 use Rattle.lt_transport_laws.proofs.OneTransport.{each-one}
 
 same-block : (x y : Block) → ◌≡◌ {A = BlockOutcome} (Ok x) (Ok y) → x ≡ y
@@ -22,7 +20,7 @@ not-both x y e = cc
 pub session-one : SessionsAreOne
 session-one s c xs ys later other h x y =
     let e : x.0 ≡ y.0 = same-block x.0 y.0 (each-one s c (Ok x.0) (Ok y.0) h x.1 y.1) in
-    x.3 ∙ ap (session_behind s) e ∙ sym y.3
+    x.4 ∙ ap (session_behind s) e ∙ sym y.4
 
 pub walk-one : WalksAreOne
 walk-one s [] None xs ys end other h x y = x.1 ∙ sym y.1

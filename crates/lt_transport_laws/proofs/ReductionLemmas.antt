@@ -1,16 +1,15 @@
 -- Reduction and alpha equality: alpha-equal terms take alpha-equal steps, so a term has one normal form, and one limit.
-use Rattle.std.specs.Prelude.{◌≡◌, ◌⊎◌, ℕ, zero, suc, ◌+◌, ◌<◌, List, [], ◌∷◌, ◌++◌, Bool, true, false, ◌||◌, not, ◌&&◌, if◌then◌else◌, length, codes}
+use Rattle.std.specs.Prelude.{◌≡◌, suc, ◌+◌, List, [], ◌∷◌, ◌++◌, true, false, ◌||◌, length, codes}
 use Rattle.std.specs.Fmt.{decimal}
-use Rattle.std.proofs.Common.{refl, subst, sym, ap, ◌∙◌, inl, inr, arith}
+use Rattle.std.proofs.Common.{refl, sym, ap, ◌∙◌, inl, inr}
 use Rattle.lt_definitions.specs.Types.{Chars, same_name, TypeTree, type_nodes, types_nodes, row}
-use Rattle.lt_definitions.specs.Terms.{TermTree, free_variable, bound_name, constant, application, abstraction, has_free, has_loose, HasNoLooseNames, term_nodes}
-use Rattle.lt_definitions.specs.Alpha.{ArePaired, AreAlpha, IsAlphaEqual}
-use Rattle.lt_definitions.specs.Binding.{opened, Closes, closed_over}
+use Rattle.lt_definitions.specs.Terms.{TermTree, free_variable, bound_name, constant, application, abstraction, term_nodes}
+use Rattle.lt_definitions.specs.Alpha.{ArePaired, AreAlpha}
+use Rattle.lt_definitions.specs.Binding.{opened}
 use Rattle.lt_definitions.specs.Printing.{printed_bound}
 use Rattle.lt_definitions.proofs.SameNames.{bool_cases, true-name, false-name}
 use Rattle.lt_nameless.proofs.Alphas.{lefts, rights}
 use Rattle.lt_nameless.proofs.BindingLemmas.{if-true, if-false}
-use Rattle.lt_nameless.proofs.AlphaLaws.{alpha_is_reflexive, alpha_is_symmetric, alpha_is_transitive, alpha_keeps_free_variables, alpha_keeps_loose_names, alpha_kept_by_opening, alpha_kept_by_closing}
 use Rattle.lt_transport_definitions.specs.Reduction.{has_redex, is_abstraction, Steps, opens, in_head, in_argument, in_body, as_printed}
 
 -- alpha-equal terms have as many nodes

@@ -1,5 +1,5 @@
 -- Each command leaves the registry one that meets what the laws ask.
-use Rattle.std.specs.Prelude.{◌≡◌, ℕ, List, [], ◌∷◌, ◌++◌, Bool, true, false, ◌&&◌, not, Option, Some, None, Result, Ok, Err, codes, fold, map, option_map, option_to_list, unwrap_or, is_some, nat_lt}
+use Rattle.std.specs.Prelude.{◌≡◌, ℕ, List, [], ◌∷◌, ◌++◌, Bool, true, false, ◌&&◌, not, Option, Some, None, Result, Ok, codes, fold, map, option_map, option_to_list, unwrap_or, is_some, nat_lt}
 use Rattle.std.proofs.Common.{refl, subst, sym, ap, ◌∙◌, inl, inr}
 use Rattle.std.specs.List.{range_with_len}
 use Rattle.lt_definitions.specs.Types.{Chars, same_name, TypeTree}
@@ -8,22 +8,19 @@ use Rattle.lt_definitions.specs.Terms.{TermTree}
 use Rattle.lt_definitions.specs.Typing.{Signature, declared_arity}
 use Rattle.lt_definitions.specs.Theory.{duplicate}
 use Rattle.lt_definitions.proofs.SameNames.{bool_cases, name-true}
-use Rattle.lt_transport_definitions.specs.Relations.{Relator, Registry, relator_for, Kind, no_constructor, a_relator, a_correspondence, a_form, relator_named, kind_of, is_constructor}
+use Rattle.lt_transport_definitions.specs.Relations.{Relator, Registry, relator_for, a_relator, relator_named, kind_of, is_constructor}
 use Rattle.lt_transport_definitions.specs.Answers.{needs_test, wrong_where, first_wrong}
 use Rattle.lt_transport_definitions.specs.Reading.{arity_of}
 use Rattle.lt_transport_definitions.specs.RuleForm.{TransferRule}
 use Rattle.lt_transport_definitions.specs.RelatorForm.{RelatorPart, relator_con, relator_rel, relator_map, relator_eq, relator_quot, relator_comp, type_number, relator_type, mapping_type, equality_statement, quotient_statement, composition_statement, states, is_declared_as, relator_form}
 use Rattle.lt_transport_definitions.specs.Sessions.{Session, signature_of}
-use Rattle.lt_transport_definitions.specs.Commands.{Command, item_command, law_command, corr_command, relator_command, property_command, domain_command, rule_command, lifting_command, lifting_typedef_command, quotient_type_command, lift_command, parametric_command, param_rule_command, equiv_command, implies_command, carry_command, abs_eq_command, rep_eq_command, CommandRefusal, as_item, Addition, Registration, rule_registered, Block, with_addition, with_registration, session_behind}
-use Rattle.lt_transport_definitions.specs.Rows.{registered_test}
+use Rattle.lt_transport_definitions.specs.Commands.{Command, item_command, law_command, corr_command, relator_command, property_command, domain_command, rule_command, lifting_command, lifting_typedef_command, quotient_type_command, lift_command, parametric_command, param_rule_command, equiv_command, implies_command, carry_command, abs_eq_command, rep_eq_command, CommandRefusal, as_item, rule_registered, Block, with_registration, session_behind}
 use Rattle.lt_transport_definitions.specs.Parts.{tests_before}
-use Rattle.lt_transport_definitions.specs.LiftRows.{rule_if_formed}
 use Rattle.lt_transport_definitions.specs.Blocks.{row_of, ComesOfRow}
-use Rattle.lt_transport_laws.specs.Statements.{IsRegistry}
 use Rattle.lt_transport_laws.specs.SessionStatements.{RegistriesStaySound}
 use Rattle.lt_transport_laws.proofs.RowLemmas.{comes-unless}
 use Rattle.lt_transport_laws.proofs.RowFacts.{EachBlock, comes-block}
-use Rattle.lt_transport_laws.proofs.RegistryLemmas.{is-kind, for_among, AreSound, sound-registry, registry-sound, sound-more}
+use Rattle.lt_transport_laws.proofs.RegistryLemmas.{is-kind, AreSound, sound-registry, registry-sound, sound-more}
 
 -- the relators behind a block
 abbrev Behind : Session → Block → List Relator

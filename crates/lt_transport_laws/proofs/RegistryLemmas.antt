@@ -1,12 +1,11 @@
 -- What commands register leaves a registry one that meets what the laws ask.
-use Rattle.std.specs.Prelude.{◌≡◌, ◌⊎◌, ℕ, List, [], ◌∷◌, ◌++◌, Bool, true, false, ◌&&◌, not, if◌then◌else◌, Option, Some, None, Result, Ok, Err, codes, fold, find, option_map, option_and_then, option_to_list, unwrap_or, is_some, nat_lt}
+use Rattle.std.specs.Prelude.{◌≡◌, ◌⊎◌, List, [], ◌∷◌, ◌++◌, Bool, true, false, if◌then◌else◌, Option, Some, None, codes, find, option_map, unwrap_or}
 use Rattle.std.proofs.Common.{refl, subst, sym, ap, ◌∙◌, inl, inr}
 use Rattle.lt_definitions.specs.Types.{Chars, same_name}
-use Rattle.lt_definitions.specs.Typing.{Signature, declared_arity, earlier}
-use Rattle.lt_definitions.proofs.SameNames.{bool_cases, name-true, true-name, name-false, false-name}
+use Rattle.lt_definitions.specs.Typing.{earlier}
+use Rattle.lt_definitions.proofs.SameNames.{bool_cases, name-true, true-name}
 use Rattle.lt_nameless.proofs.BindingLemmas.{if-true, if-false}
-use Rattle.lt_transport_definitions.specs.Relations.{Relator, Correspondence, Registry, function_relator_name, relator_of, relator_for, correspondence_of, Kind, no_constructor, a_relator, a_correspondence, a_form, form_named, relator_named, kind_of, is_constructor}
-use Rattle.lt_transport_definitions.specs.Answers.{wrong_where}
+use Rattle.lt_transport_definitions.specs.Relations.{Relator, Correspondence, Registry, function_relator_name, correspondence_of, no_constructor, a_relator, a_correspondence, a_form, form_named, relator_named, kind_of}
 use Rattle.lt_transport_laws.specs.Statements.{IsRegistry}
 
 -- what a kind is told by

@@ -1,5 +1,5 @@
 -- What holds of each block to which a row may come, given what its tests have found.
-use Rattle.std.specs.Prelude.{◌≡◌, List, [], Option, Some, None, Result, Ok, Err, option_map}
+use Rattle.std.specs.Prelude.{◌≡◌, [], Option, Some, None, Result, Ok, Err, option_map}
 use Rattle.std.proofs.Common.{refl, subst, inl, inr}
 use Rattle.lt_definitions.specs.Types.{row}
 use Rattle.lt_definitions.specs.Terms.{TermTree}

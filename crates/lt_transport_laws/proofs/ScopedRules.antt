@@ -1,18 +1,17 @@
 -- The raw sides of rules that are read from statements without loose names have none.
-use Rattle.std.specs.Prelude.{◌≡◌, ◌⊎◌, ℕ, ◌+◌, List, [], ◌∷◌, Bool, true, false, ◌||◌, ◌&&◌, not, if◌then◌else◌, Option, Some, None, Result, Ok, Err, codes, filter, slice_get, option_and_then}
+use Rattle.std.specs.Prelude.{◌≡◌, ℕ, ◌+◌, List, [], ◌∷◌, Bool, true, false, ◌&&◌, not, Option, Some, None, Result, codes, option_and_then}
 use Rattle.std.specs.List.{filter_map, cons_option}
-use Rattle.std.proofs.Common.{refl, subst, sym, ap, ◌∙◌, inl, inr, arith}
-use Rattle.lt_definitions.specs.Types.{Chars, same_name, found, TypeTree}
+use Rattle.std.proofs.Common.{refl, subst, sym, ap, ◌∙◌, inl, inr}
+use Rattle.lt_definitions.specs.Types.{Chars, same_name, found}
 use Rattle.lt_definitions.specs.Terms.{TermTree, free_variable, bound_name, constant, application, abstraction, has_loose, HasNoLooseNames}
 use Rattle.lt_definitions.specs.Typing.{Signature}
-use Rattle.lt_definitions.specs.Binding.{opened}
 use Rattle.lt_definitions.proofs.SameNames.{bool_cases}
 use Rattle.lt_nameless.proofs.BindingLemmas.{if-true, if-false}
 use Rattle.lt_transport_definitions.specs.Relations.{Property, RelationVariable, Registry}
 use Rattle.lt_transport_definitions.specs.Answers.{needs_test, needs, value_of}
 use Rattle.lt_transport_definitions.specs.Reading.{binders, behind_binders, relation_name, opened_from, body_of, prefix_of, read_relation}
 use Rattle.lt_transport_definitions.specs.RuleForm.{TransferRule, RulePart, rule_prefix, rule_head, rule_relation, rule_types, side_before, Conditioned, with_side, conditioned, Related, as_related, are_types_right, rule_form}
-use Rattle.lt_transport_definitions.specs.Sessions.{Session, signature_of, statement_at, rule_now, rules_now}
+use Rattle.lt_transport_definitions.specs.Sessions.{Session, rule_now, rules_now}
 use Rattle.lt_transport_laws.specs.SessionStatements.{AreScopedStatements}
 use Rattle.lt_transport_laws.proofs.Rows.{AllOf}
 use Rattle.lt_transport_laws.proofs.LooseNames.{opened-loose, variable-none, head-none, argument-none}
@@ -40,7 +39,7 @@ body-loose z i (bound_name x) = refl
 body-loose z i (constant c ts) = refl
 body-loose z i (abstraction x ty b) = refl
 
-body-none : (t : TermTree) → HasNoLooseNames t → HasNoLooseNames (body_of t)
+pub body-none : (t : TermTree) → HasNoLooseNames t → HasNoLooseNames (body_of t)
 body-none t h z = body-loose z 1 t ∙ h z
 
 with_side-none : (o : Option (Property × ℕ)) (whole : TermTree) (behind : Conditioned) → HasNoLooseNames whole → HasNoLooseNames behind.rest
@@ -135,5 +134,5 @@ map-scoped h k (l ∷ ls) = first (h l) (k l) (filter_map h ls) (map-scoped h k 
 
 -- the rules of a session whose statements have no loose names
 pub rules-scoped : (s : Session) → AreScopedStatements s.context.statements → AllOf IsScopedRule (rules_now s)
-rules-scoped s h = map-scoped (rule_now s) (λ l.
-    rule_of-scoped (signature_of s) s.registry l (statement_at s l) (found-statement l s.context.statements h)) s.rules
+rules-scoped s h = map-scoped (rule_now s.context s.registry) (λ l.
+    rule_of-scoped s.context.signature s.registry l (found l s.context.statements) (found-statement l s.context.statements h)) s.rules

@@ -1,17 +1,17 @@
 -- Terms of relations, their domains and raw sides have no loose bound names.
-use Rattle.std.specs.Prelude.{◌≡◌, ◌⊎◌, List, [], ◌∷◌, ◌++◌, Bool, true, false, ◌||◌, ◌&&◌, not, if◌then◌else◌, Option, Some, None, map, slice_get, codes, unwrap_or, option_map, find, cond}
+use Rattle.std.specs.Prelude.{◌≡◌, List, [], ◌∷◌, ◌++◌, Bool, true, false, ◌||◌, ◌&&◌, not, Option, Some, None, map, codes, unwrap_or, option_map, find}
 use Rattle.std.specs.List.{zip}
 use Rattle.std.proofs.Common.{refl, subst, sym, ap, ◌∙◌, inl, inr}
 use Rattle.lt_definitions.specs.Types.{Chars, same_name, found, TypeTree, TypeMap, type_instance}
 use Rattle.lt_definitions.specs.Terms.{TermTree, free_variable, bound_name, constant, application, abstraction, has_loose, HasNoLooseNames}
 use Rattle.lt_definitions.proofs.SameNames.{bool_cases}
 use Rattle.lt_nameless.proofs.BindingLemmas.{if-true, if-false}
-use Rattle.lt_transport_definitions.specs.Notation.{WithType, applied, equality_at}
-use Rattle.lt_transport_definitions.specs.Relations.{Relation, relation_variable, equality, constructed, Relations, no_relations, relation_and, DomainRule, Registry, domain_rule_for, kind_of}
+use Rattle.lt_transport_definitions.specs.Notation.{WithType, applied}
+use Rattle.lt_transport_definitions.specs.Relations.{Relation, relation_variable, equality, constructed, Relations, no_relations, relation_and, DomainRule, Registry, domain_rule_for}
 use Rattle.lt_transport_definitions.specs.Expressions.{left, right}
-use Rattle.lt_transport_definitions.specs.RelationTerms.{forced_types, constructed_term, written, written_list, relation_term, Meaning, domain_at, with_relations, argument_map, plain_domain, domain_by, domain_of, argument_meanings, meaning_of}
-use Rattle.lt_transport_laws.proofs.Rows.{AllOf, all_of-map}
-use Rattle.lt_transport_laws.proofs.LooseNames.{application-none, head-none, argument-none}
+use Rattle.lt_transport_definitions.specs.RelationTerms.{forced_types, written, written_list, relation_term, Meaning, domain_at, with_relations, argument_map, plain_domain, domain_by, domain_of, argument_meanings, meaning_of}
+use Rattle.lt_transport_laws.proofs.Rows.{AllOf}
+use Rattle.lt_transport_laws.proofs.LooseNames.{application-none}
 use Rattle.lt_transport_laws.proofs.Exchanges.{neither}
 
 -- what stands for a relation variable has no loose names

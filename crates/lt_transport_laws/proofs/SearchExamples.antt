@@ -1,16 +1,15 @@
 -- What the examples of searches rest on.
-use Rattle.std.specs.Prelude.{◌≡◌, ◌⊎◌, ℕ, zero, suc, ◌<◌, List, [], ◌∷◌, ◌++◌, true, Option, Some, None, length, slice_get, IsSome, Contains, codes}
+use Rattle.std.specs.Prelude.{◌≡◌, ◌⊎◌, ℕ, zero, suc, List, [], ◌∷◌, ◌++◌, Some, None, length, slice_get, IsSome, Contains, codes}
 use Rattle.std.specs.Fmt.{digits}
 use Rattle.std.proofs.Common.{refl, subst, sym, ap, ◌∙◌, inl, inr, arith}
 use Rattle.lt_definitions.specs.Samples.{con, app}
 use Rattle.lt_definitions.specs.Types.{bool}
-use Rattle.lt_definitions.specs.Terms.{TermTree, term_nodes}
 use Rattle.lt_transport_definitions.specs.Relations.{Relation, equality, relation_row, built_in_registry}
 use Rattle.lt_transport_definitions.specs.Expressions.{right, function_relator}
 use Rattle.lt_transport_definitions.specs.Below.{AreBelow}
 use Rattle.lt_transport_definitions.specs.Candidates.{occurrences, match_of, IsChoice}
 use Rattle.lt_transport_definitions.specs.Correspondence.{ChosenStatement, chosen_application, chosen_abstraction, chosen_rule, chosen_equality, not_chosen, Assignment, numbers_of, AreValues, IsAssignment, rule_relations, binder_relations}
-use Rattle.lt_transport_definitions.specs.Search.{Question, Solution, IsWhole, IsLeast, IsBefore, IsAnswer, AreChoices, IsVisit, AreDifferent, relations_of, image_by}
+use Rattle.lt_transport_definitions.specs.Search.{Solution, IsWhole, IsLeast, IsBefore, IsAnswer, AreChoices, IsVisit, AreDifferent, relations_of, image_by}
 use Rattle.lt_transport_definitions.specs.Samples.{question_s_z, rule_az, rule_ps, relation_r, law_signature}
 use Rattle.lt_transport_laws.specs.Statements.{IsRegistry}
 use Rattle.lt_transport_laws.proofs.Rows.{IsIn}

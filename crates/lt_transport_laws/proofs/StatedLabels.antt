@@ -1,5 +1,5 @@
 -- Labels that have statements keep them, and those of what is added get them.
-use Rattle.std.specs.Prelude.{◌≡◌, ◌⊎◌, List, [], ◌∷◌, ◌++◌, Bool, true, false, if◌then◌else◌, Option, Some, None, map, fold, is_some, IsSome}
+use Rattle.std.specs.Prelude.{◌≡◌, ◌⊎◌, List, [], ◌∷◌, ◌++◌, Bool, true, Option, Some, None, map, fold, is_some}
 use Rattle.std.specs.List.{flat_map, list_any}
 use Rattle.std.proofs.Common.{refl, subst, sym, ap, ◌∙◌, inl, inr}
 use Rattle.lt_definitions.specs.Types.{Chars, same_name, found, TypeTree}

@@ -6,7 +6,7 @@ use Rattle.lt_transport_definitions.specs.Expressions.{abstract_type, variables_
 use Rattle.lt_transport_definitions.specs.RuleForm.{TransferRule}
 use Rattle.lt_transport_definitions.specs.Candidates.{type_at, match_of, fits, candidates}
 use Rattle.lt_transport_definitions.specs.Correspondence.{relation_instance, relation_instances, AreValues}
-use Rattle.std.specs.Prelude.{Bool, true, filter, Some, None, ◌<◌, ◌≤◌}
+use Rattle.std.specs.Prelude.{Bool, true, filter, Some, None}
 use Rattle.std.proofs.Common.{◌≡◌, ℕ, zero, suc, arith, List, [], ◌∷◌, length, map, Option, slice_get, refl, subst, sym, ap, ◌∙◌, inl, inr}
 use Rattle.std.specs.Option.{unwrap_or}
 use Rattle.std.proofs.lemmas.List.{length-map}

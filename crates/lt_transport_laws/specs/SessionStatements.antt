@@ -1,16 +1,17 @@
 -- What the laws on sessions and walks say.
-use Rattle.std.specs.Prelude.{◌≡◌, ℕ, List, [], ◌∷◌, ◌++◌, Option, Some, Ok, IsSome, map, codes}
+use Rattle.std.specs.Prelude.{◌≡◌, ℕ, List, [], ◌∷◌, Option, Some, Ok, IsSome, map, codes}
 use Rattle.std.specs.List.{flat_map}
 use Rattle.lt_definitions.specs.Types.{Chars, found}
 use Rattle.lt_definitions.specs.Terms.{TermTree, HasNoLooseNames}
 use Rattle.lt_definitions.specs.Typing.{declared_arity}
 use Rattle.lt_definitions.specs.Items.{Item, Context}
+use Rattle.lt_definitions.specs.Theory.{AreValid, IsPlainTheory}
 use Rattle.lt_transport_definitions.specs.Relations.{Relator, Parametrised, DomainRule}
-use Rattle.lt_transport_definitions.specs.Sessions.{LiftedEntry, Session, signature_of}
+use Rattle.lt_transport_definitions.specs.Sessions.{LiftedEntry, Session, new_session, signature_of}
 use Rattle.lt_transport_definitions.specs.Commands.{Command, CommandRefusal, Block, session_behind}
 use Rattle.lt_transport_definitions.specs.Rows.{BlockOutcome}
 use Rattle.lt_transport_definitions.specs.Blocks.{ComesOf, Gives}
-use Rattle.lt_transport_definitions.specs.TheoryWalks.{Placed, Unread, End, WalksOver, theory_commands}
+use Rattle.lt_transport_definitions.specs.TheoryWalks.{Placed, Unread, Cut, End, WalksOver, WalksCut, theory_commands, items_of_blocks}
 use Rattle.lt_transport_laws.specs.Statements.{IsRegistry}
 
 -- Named statements without loose bound names.
@@ -23,8 +24,8 @@ abbrev pub AreScopedDomains : List DomainRule → Type 0
 AreScopedDomains [] = Unit {0}
 AreScopedDomains (d ∷ ds) = HasNoLooseNames d.domain × AreScopedDomains ds
 
--- A session in which each statement and each domain has its binders. Where its items are a valid plain theory, each statement is typed,
--- so it has; and a domain is part of a statement.
+-- A session in which each statement and each domain has its binders. Where its items are a valid
+-- plain theory, each statement is typed, so it has; and a domain is part of a statement.
 pub record IsScopedSession (s : Session) : Type 0 where
   pub registry : IsRegistry s.registry
   pub statements : AreScopedStatements s.context.statements
@@ -32,25 +33,52 @@ pub record IsScopedSession (s : Session) : Type 0 where
 
 -- One outcome comes of each command, transports included.
 abbrev pub EachOutcomeIsOne : Type 0
-EachOutcomeIsOne = (s : Session) (c : Command) (o p : BlockOutcome) → IsScopedSession s → ComesOf s c o → ComesOf s c p → o ≡ p
+EachOutcomeIsOne =
+    (s : Session) (c : Command) (o p : BlockOutcome) → IsScopedSession s → ComesOf s c o
+    → ComesOf s c p → o ≡ p
 
 -- A command leads to one session.
 abbrev pub SessionsAreOne : Type 0
-SessionsAreOne = (s : Session) (c : Command) (xs ys : List Item) (later other : Session) → IsScopedSession s → Gives s c xs later → Gives s c ys other → later ≡ other
+SessionsAreOne =
+    (s : Session) (c : Command) (xs ys : List Item) (later other : Session) → IsScopedSession s
+    → Gives s c xs later → Gives s c ys other → later ≡ other
 
 -- Each session that the commands lead to has its binders.
 abbrev pub AreScopedAlong : Session → List (Placed Command) → Type 0
 AreScopedAlong s [] = Unit {0}
-AreScopedAlong s (c ∷ cs) = IsScopedSession s × ((items : List Item) (later : Session) → Gives s c.command items later → AreScopedAlong later cs)
+AreScopedAlong s (c ∷ cs) =
+    IsScopedSession s
+    × ((items : List Item) (later : Session) → Gives s c.command items later
+    → AreScopedAlong later cs)
 
 -- A walk over commands has one end.
 abbrev pub WalksAreOne : Type 0
-WalksAreOne = (s : Session) (cs : List (Placed Command)) (wrong : Option (Unread × ℕ)) (xs ys : List (List Item)) (end other : End CommandRefusal)
-    → AreScopedAlong s cs → WalksOver theory_commands s cs wrong xs end → WalksOver theory_commands s cs wrong ys other → end ≡ other
+WalksAreOne =
+    (s : Session) (cs : List (Placed Command)) (wrong : Option (Unread × ℕ))
+    (xs ys : List (List Item)) (end other : End CommandRefusal)
+    → AreScopedAlong s cs → WalksOver theory_commands s cs wrong xs end
+    → WalksOver theory_commands s cs wrong ys other → end ≡ other
 
--- A block leaves the registry one that meets what the laws ask, where bool is declared without arguments.
+-- The items that a walk gives are valid one after another, over those before the walk.
+abbrev pub WalksArePlain : Type 0
+WalksArePlain =
+    (s : Session) (cs : List (Placed Command)) (wrong : Option (Unread × ℕ))
+    (blocks : List (List Item)) (end : End CommandRefusal)
+    → WalksOver theory_commands s cs wrong blocks end → AreValid s.context (items_of_blocks blocks)
+
+-- The items of a run are a valid plain theory, however its text is cut.
+abbrev pub RunsArePlain : Type 0
+RunsArePlain =
+    (limit : ℕ) (cut : Cut Command) (blocks : List (List Item)) (end : End CommandRefusal)
+    → WalksCut theory_commands (new_session limit) cut blocks end
+    → IsPlainTheory (items_of_blocks blocks)
+
+-- A block leaves the registry one that meets what the laws ask, where bool is declared without
+-- arguments.
 abbrev pub RegistriesStaySound : Type 0
-RegistriesStaySound = (s : Session) (c : Command) (b : Block) → declared_arity (signature_of s) (codes "bool") ≡ Some 0 → IsRegistry s.registry
+RegistriesStaySound =
+    (s : Session) (c : Command) (b : Block)
+    → declared_arity (signature_of s) (codes "bool") ≡ Some 0 → IsRegistry s.registry
     → ComesOf s c (Ok b) → IsRegistry (session_behind s b).registry
 
 -- The label has a statement.
@@ -88,4 +116,6 @@ pub record IsInStep (s : Session) : Type 0 where
 
 -- A session in step gives one in step.
 abbrev pub SessionsStayInStep : Type 0
-SessionsStayInStep = (s : Session) (c : Command) (b : Block) → IsInStep s → ComesOf s c (Ok b) → IsInStep (session_behind s b)
+SessionsStayInStep =
+    (s : Session) (c : Command) (b : Block) → IsInStep s → ComesOf s c (Ok b)
+    → IsInStep (session_behind s b)

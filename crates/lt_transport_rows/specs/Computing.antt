@@ -1,5 +1,6 @@
--- Commands computed one after another, for examples: where a row asks for a quotient it is looked for to a depth, and where it asks for
--- an image that image is told. No definition and no contract cites this file; it is checked against the definitions nowhere but by use.
+-- Commands computed one after another, for examples: where a row asks for a quotient it is looked
+-- for to a depth, and where it asks for an image that image is told. No definition and no contract
+-- cites this file; it is checked against the definitions nowhere but by use.
 -- Source: this project's own.
 use Rattle.std.specs.Prelude.{ℕ, zero, suc, List, [], ◌∷◌, ◌++◌, Bool, true, false, ◌&&◌, ◌||◌, if◌then◌else◌, filter, map, slice_get, Option, Some, None, Ok, Err, codes, length, nat_eq, nat_lt, unwrap_or, option_map}
 use Rattle.std.specs.List.{list_all}
@@ -33,7 +34,8 @@ quots_by f _ _ = no_quots
 -- the quotient by the case that applies
 abbrev pub quot_by_case : (TypeTree → TypeTree → Quot) → QuotCase → TypeTree → TypeTree → Quot
 quot_by_case f equal_types abs raw = identity_quotient abs
-quot_by_case f one_relator abs raw = relator_quotient (constructor_name abs) (quots_by f (arguments_of abs) (arguments_of raw))
+quot_by_case f one_relator abs raw =
+    relator_quotient (constructor_name abs) (quots_by f (arguments_of abs) (arguments_of raw))
 quot_by_case f (that_quotient e ts) abs raw = registered_quotient e ts
 quot_by_case f (another_raw_type e ts) abs raw = composed_quotient (f (raw_at e ts) raw) e ts
 quot_by_case f nothing abs raw = no_quotient_between abs raw
@@ -41,14 +43,16 @@ quot_by_case f nothing abs raw = no_quotient_between abs raw
 -- the quotient between two types, if its depth is less than this
 abbrev pub quot_within : ℕ → Session → TypeTree → TypeTree → Quot
 quot_within zero s abs raw = no_quotient_between abs raw
-quot_within (suc n) s abs raw = quot_by_case (quot_within n s) (case_of s abs raw) abs raw
+quot_within (suc n) s abs raw =
+    quot_by_case (quot_within n s) (case_of s.registry s.quotients abs raw) abs raw
 
 -- whether two expressions are one
 abbrev mutual
   pub same_relation : Relation → Relation → Bool
   same_relation (relation_variable n t) (relation_variable m u) = nat_eq n m && same_type t u
   same_relation (equality t) (equality u) = same_type t u
-  same_relation (constructed c ts rs) (constructed d us ss) = same_name c d && same_types (row ts) (row us) && same_relations rs ss
+  same_relation (constructed c ts rs) (constructed d us ss) =
+      same_name c d && same_types (row ts) (row us) && same_relations rs ss
   same_relation _ _ = false
 
   pub same_relations : Relations → Relations → Bool
@@ -70,7 +74,9 @@ abbrev mutual
   pub side_holds : Registry → Relation → Property → Bool
   side_holds G (relation_variable n t) p = false
   side_holds G (equality t) p = true
-  side_holds G (constructed c ts rs) p = is_equality G (constructed c ts rs) || rule_holds (property_rule_for G p c) (side_holds_at G rs)
+  side_holds G (constructed c ts rs) p =
+      is_equality G (constructed c ts rs)
+      || rule_holds (property_rule_for G p c) (side_holds_at G rs)
 
   pub side_holds_at : Registry → Relations → ℕ → Property → Bool
   side_holds_at G no_relations i p = false
@@ -83,7 +89,8 @@ is_expression_of G ty r = same_relation (normal G r) r && same_type (right G r) 
 
 -- whether values are expressions of their right types
 abbrev pub are_values : Registry → TypeMap → List RelationVariable → List Relation → Bool
-are_values G m (x ∷ xs) (v ∷ vs) = is_expression_of G (type_instance m (type_variable x.right_name)) v && are_values G m xs vs
+are_values G m (x ∷ xs) (v ∷ vs) =
+    is_expression_of G (type_instance m (type_variable x.right_name)) v && are_values G m xs vs
 are_values G m [] [] = true
 are_values G m _ _ = false
 
@@ -94,17 +101,28 @@ value_has G vs i p = unwrap_or (option_map (λ v. side_holds G v p) (slice_get v
 -- the candidate with a number
 abbrev pub candidate : Session → String → List TypeTree → ℕ → TransferRule
 candidate s c ts i = unwrap_or (slice_get (candidates (rules_now s) (codes c) ts) i)
-    (record { label = []; variables = []; sides = []; relation = equality bool; raw = bound_name []; constant = []; pattern = [] })
+    (record {
+      label = [];
+      variables = [];
+      sides = [];
+      relation = equality bool;
+      raw = bound_name [];
+      constant = [];
+      pattern = [];
+    })
 
 -- whether the candidates, the right types and the side conditions are right
 abbrev pub is_assigned : Session → (K : ChosenStatement) → Assignment K → Bool
 is_assigned s (chosen_name x) v = true
-is_assigned s (chosen_rule c ts i rule) v = same_name rule.constant c && nat_lt i (length (candidates (rules_now s) c ts))
-    && are_values s.registry (match_of rule ts) rule.variables v && each_holds rule.sides (value_has s.registry v)
+is_assigned s (chosen_rule c ts i rule) v =
+    same_name rule.constant c && nat_lt i (length (candidates (rules_now s) c ts))
+    && are_values s.registry (match_of rule ts) rule.variables v
+    && each_holds rule.sides (value_has s.registry v)
 is_assigned s (chosen_equality c ts) v = nat_eq (length (candidates (rules_now s) c ts)) 0
 is_assigned s (not_chosen c ts) v = false
 is_assigned s (chosen_application f a) v = is_assigned s f v.0 && is_assigned s a v.1
-is_assigned s (chosen_abstraction x ty b) v = is_expression_of s.registry ty v.0 && is_assigned s b v.1
+is_assigned s (chosen_abstraction x ty b) v =
+    is_expression_of s.registry ty v.0 && is_assigned s b v.1
 
 -- what the expression of a head gives at that of its argument
 abbrev pub result_at : Option Relation → Option Relation → Option Relation
@@ -113,13 +131,18 @@ result_at (Some (constructed c ts (relation_and r (relation_and e no_relations))
 result_at _ _ = None
 
 -- the expression by which a statement corresponds
-abbrev pub expression_by : Session → List (Chars × Relation) → (K : ChosenStatement) → Assignment K → Option Relation
+abbrev pub expression_by : Session → List (Chars × Relation) → (K : ChosenStatement) → Assignment K
+    → Option Relation
 expression_by s names (chosen_name x) v = found x names
-expression_by s names (chosen_rule c ts i rule) v = Some (relation_instance s.registry (match_of rule ts) v rule.relation)
-expression_by s names (chosen_equality c ts) v = Some (normal_equality s.registry (type_at (signature_of s) c ts))
+expression_by s names (chosen_rule c ts i rule) v =
+    Some (relation_instance s.registry (match_of rule ts) v rule.relation)
+expression_by s names (chosen_equality c ts) v =
+    Some (normal_equality s.registry (type_at (signature_of s) c ts))
 expression_by s names (not_chosen c ts) v = None
-expression_by s names (chosen_application f a) v = result_at (expression_by s names f v.0) (expression_by s names a v.1)
-expression_by s names (chosen_abstraction x ty b) v = option_map (function_relator v.0) (expression_by s ((x, v.0) ∷ names) b v.1)
+expression_by s names (chosen_application f a) v =
+    result_at (expression_by s names f v.0) (expression_by s names a v.1)
+expression_by s names (chosen_abstraction x ty b) v =
+    option_map (function_relator v.0) (expression_by s ((x, v.0) ∷ names) b v.1)
 
 -- what is told of a transport: a solution, the image before reduction, and its normal form
 pub record Told : Type 0 where
@@ -132,25 +155,37 @@ pub record Told : Type 0 where
 abbrev pub is_solution : Session → Question → Told → Bool
 is_solution s q t = let w : (K : ChosenStatement) × Assignment K = t.solution s in
     is_alpha (statement_of w.0) q.statement && is_assigned s w.0 w.1
-    && unwrap_or (option_map (λ e. unwrap_or (option_map (same_relation e) (slice_get (top_candidates q.top) t.top)) false) (expression_by s [] w.0 w.1)) false
+    && unwrap_or
+    (option_map (λ e.
+    unwrap_or (option_map (same_relation e) (slice_get (top_candidates q.top) t.top)) false)
+    (expression_by s [] w.0 w.1)) false
     && is_alpha (image_of q.signature q.registry w.0 w.1) t.image
 
 -- what comes of a row
 abbrev pub computed : Session → Option Told → Row → BlockOutcome
-computed s told (test ⊳ rest) = elim test as (λ r. BlockOutcome) [ None ↦ computed s told rest | Some r ↦ Err r ]
-computed s told (with_value x r row) = elim x as (λ o. BlockOutcome) [ None ↦ Err r | Some y ↦ computed s told (row y) ]
-computed s told (with_form x refusal_for row) = elim x as (λ o. BlockOutcome) [ Ok y ↦ computed s told (row y) | Err e ↦ Err (refusal_for e) ]
+computed s told (test ⊳ rest) =
+    elim test as (λ r. BlockOutcome) [ None ↦ computed s told rest | Some r ↦ Err r ]
+computed s told (with_value x r row) =
+    elim x as (λ o. BlockOutcome) [ None ↦ Err r | Some y ↦ computed s told (row y) ]
+computed s told (with_form x refusal_for row) =
+    elim x as (λ o. BlockOutcome) [ Ok y ↦ computed s told (row y) | Err e ↦ Err (refusal_for e) ]
 computed s told (with_quotient abs raw row) = let q : Quot = quot_within 12 s abs raw in
-    elim (missing_pair q) as (λ p. BlockOutcome) [ None ↦ computed s told (row q) | Some p ↦ Err (no_quotient p.0 p.1) ]
+    elim (missing_pair q) as
+    (λ p. BlockOutcome) [ None ↦ computed s told (row q) | Some p ↦ Err (no_quotient p.0 p.1) ]
 computed s None (with_image q limit row) = Err no_transport
-computed s (Some t) (with_image q limit row) = if is_solution s q t then computed s (Some t) (row t.image) else Err no_transport
+computed s (Some t) (with_image q limit row) =
+    if is_solution s q t then computed s (Some t) (row t.image) else Err no_transport
 computed s None (with_normal_form t row) = Err no_transport
-computed s (Some told) (with_normal_form t row) = computed s (Some told) (row (as_printed [] told.normal))
-computed s told (adds items registered) = Ok (record { additions = items; registrations = registered })
+computed s (Some told) (with_normal_form t row) =
+    computed s (Some told) (row (as_printed [] told.normal))
+computed s told (adds items registered) =
+    Ok (record { additions = items; registrations = registered })
 
 -- what comes of a command
 abbrev pub outcome : Session → Command × Option Told → BlockOutcome
-outcome s c = elim (first_wrong (tests_before s c.0)) as (λ r. BlockOutcome) [ None ↦ computed s c.1 (row_of s c.0) | Some r ↦ Err r ]
+outcome s c =
+    elim (first_wrong (tests_before s c.0)) as
+    (λ r. BlockOutcome) [ None ↦ computed s c.1 (row_of s c.0) | Some r ↦ Err r ]
 
 -- the summary lines of what is added
 abbrev pub item_text : List Addition → Chars
@@ -163,13 +198,21 @@ State = record { session : Session; text : Chars; ended : Bool }
 
 -- the state behind an outcome
 abbrev pub stepped : State → BlockOutcome → State
-stepped s (Ok b) = record { session = session_behind s.session b; text = s.text ++ item_text b.additions; ended = false }
-stepped s (Err r) = record { session = s.session; text = s.text ++ (printed_refusal r ++ codes "\n"); ended = true }
+stepped s (Ok b) =
+    record {
+      session = session_behind s.session b;
+      text = s.text ++ item_text b.additions;
+      ended = false;
+    }
+stepped s (Err r) =
+    record { session = s.session; text = s.text ++ (printed_refusal r ++ codes "\n"); ended = true }
 
 -- the state behind commands
 abbrev pub run_from : State → List (Command × Option Told) → State
 run_from s [] = s
-run_from s (c ∷ cs) = elim s.ended as (λ b. State) [ true ↦ s | false ↦ run_from (stepped s (outcome s.session c)) cs ]
+run_from s (c ∷ cs) =
+    elim s.ended as
+    (λ b. State) [ true ↦ s | false ↦ run_from (stepped s (outcome s.session c)) cs ]
 
 -- the summary lines of commands, and the first refusal
 abbrev pub text_of : List (Command × Option Told) → Chars

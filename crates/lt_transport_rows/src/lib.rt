@@ -1,4 +1,5 @@
-//! Worked rows, computed from the definitions: the summary lines of what commands add, and the first refusal.
+//! Worked rows, computed from the definitions: the summary lines of what commands add, and the
+//! first refusal.
 #![tactic(auto)]
 
 pub mod correspondences_rows;

@@ -1,6 +1,5 @@
-use Rattle.std.proofs.Common.{◌≡◌, ◌∷◌, [], arith, IsSome, rules, Fits, w64}
+use Rattle.std.proofs.Common.{◌≡◌, ◌∷◌, [], arith, refl, rules, Fits, w64}
 use Rattle.std.proofs.lemmas.Grind.{common_steps}
-use Rattle.lt_store.specs.Memos.{result_at}
 use Rattle.lt_store.specs.Passes.{step_of}
 use Rattle.lt_store.specs.declared.pass.Task.TheVariants.{Visit}
 use Rattle.lt_store.proofs.TreeLemmas.{extends_on, extends_same}
@@ -12,6 +11,12 @@ pub loop-task-init : goal.loop-task-init
 loop-task-init g c =
     let is : c.push.new.self.items ≡ Visit c.args.root 0 ∷ [] = grind (arith, common_steps) in
     record { kept = extends_same _; sound = c.requires.sound; underway = underway_first _ _ _ c.args.memo.now _ is }
+
+pub is_settled-requires-clause-id : goal.is_settled-requires-clause-id
+is_settled-requires-clause-id g c =
+    let was = rw c.in-Visit.is at c.in-Some.ensures.items in
+    let in_root = inside _ _ _ c.loop-task.memo _ _ _ was c.loop-task.invariant.underway in
+    omega (arith, in_root, c.requires.root, c.loop-task.invariant.kept.grows)
 
 pub view-requires : goal.view-requires
 view-requires g c =
@@ -26,18 +31,16 @@ push_children-requires g c =
     let fits : Fits w64 c.len-end.result = search rules in
     omega (arith, in_root, c.len-end.ensures, c.requires.root, c.step-step.ensures.most)
 
-pub loop-task-smaller-then-is_some : goal.loop-task-smaller-then-is_some
-loop-task-smaller-then-is_some g c =
+pub loop-task-smaller-then-branch : goal.loop-task-smaller-then-branch
+loop-task-smaller-then-branch g c =
     let was = rw c.in-Visit.is at c.in-Some.ensures.items in
-    let own : IsSome (result_at c.loop-task.memo c.in-Visit.id c.in-Visit.depth) = grind (arith, common_steps) in
-    (skip_turn _ _ _ c.loop-task.memo _ _ _ _ c.loop-task.invariant.underway was own).smaller
+    (skip_turn _ _ _ c.loop-task.memo _ _ _ _ c.loop-task.invariant.underway c.is_settled.new.memo c.in_ok-is_settled-in-Visit.ensures.kept was (c.in_ok-is_settled-in-Visit.ensures.is c.if-branch.true)).smaller
 
-pub loop-task-preserved-then-is_some : goal.loop-task-preserved-then-is_some
-loop-task-preserved-then-is_some g c =
+pub loop-task-preserved-then-branch : goal.loop-task-preserved-then-branch
+loop-task-preserved-then-branch g c =
     let was = rw c.in-Visit.is at c.in-Some.ensures.items in
-    let own : IsSome (result_at c.loop-task.memo c.in-Visit.id c.in-Visit.depth) = grind (arith, common_steps) in
-    let turn = skip_turn _ _ _ c.loop-task.memo _ _ _ _ c.loop-task.invariant.underway was own in
-    record { kept = c.loop-task.invariant.kept; sound = c.loop-task.invariant.sound; underway = turn.underway }
+    let turn = skip_turn _ _ _ c.loop-task.memo _ _ _ _ c.loop-task.invariant.underway c.is_settled.new.memo c.in_ok-is_settled-in-Visit.ensures.kept was (c.in_ok-is_settled-in-Visit.ensures.is c.if-branch.true) in
+    record { kept = c.loop-task.invariant.kept; sound = c.in_ok-is_settled-in-Visit.ensures.sound; underway = turn.underway }
 
 pub result_of-requires-clause-id : goal.result_of-requires-clause-id
 result_of-requires-clause-id g c =
@@ -60,20 +63,20 @@ result_of-requires-clause-ready g c =
     let was = rw c.in-Finish.is at c.in-Some.ensures.items in
     finish_ready _ _ _ c.loop-task.memo _ _ _ _ c.loop-task.invariant.underway _ was c.requires.root c.loop-task.invariant.kept
 
-pub loop-task-smaller-in-Continue-branch-3 : goal.loop-task-smaller-in-Continue-branch-3
-loop-task-smaller-in-Continue-branch-3 g c =
+pub loop-task-smaller-in-Continue-branch-4 : goal.loop-task-smaller-in-Continue-branch-4
+loop-task-smaller-in-Continue-branch-4 g c =
     let was = rw c.in-Visit.is at c.in-Some.ensures.items in
     let small = rw c.step-step.ensures.step at c.step-step.ensures.most in
-    (visit_turn (step_of c.args.work) _ _ c.loop-task.memo _ _ _ _ c.loop-task.invariant.underway small _ _ _ _ was c.in_ok-push-in-Visit.ensures.items (rw c.step-step.ensures.step at c.in_ok-push_children-in-Visit.ensures) c.requires.root c.loop-task.invariant.kept
+    (visit_turn (step_of c.args.work) _ _ c.loop-task.memo _ _ _ _ c.loop-task.invariant.underway c.is_settled.new.memo c.in_ok-is_settled-in-Visit.ensures.kept small _ _ _ _ was c.in_ok-push-in-Visit.ensures.items (rw c.step-step.ensures.step at c.in_ok-push_children-in-Visit.ensures) c.requires.root c.loop-task.invariant.kept
     c.view.ensures.node c.view.ensures.below c.view.ensures.stands).smaller
 
-pub loop-task-preserved-in-Continue-branch-3 : goal.loop-task-preserved-in-Continue-branch-3
-loop-task-preserved-in-Continue-branch-3 g c =
+pub loop-task-preserved-in-Continue-branch-4 : goal.loop-task-preserved-in-Continue-branch-4
+loop-task-preserved-in-Continue-branch-4 g c =
     let was = rw c.in-Visit.is at c.in-Some.ensures.items in
     let small = rw c.step-step.ensures.step at c.step-step.ensures.most in
-    let turn = visit_turn (step_of c.args.work) _ _ c.loop-task.memo _ _ _ _ c.loop-task.invariant.underway small _ _ _ _ was c.in_ok-push-in-Visit.ensures.items (rw c.step-step.ensures.step at c.in_ok-push_children-in-Visit.ensures) c.requires.root c.loop-task.invariant.kept
+    let turn = visit_turn (step_of c.args.work) _ _ c.loop-task.memo _ _ _ _ c.loop-task.invariant.underway c.is_settled.new.memo c.in_ok-is_settled-in-Visit.ensures.kept small _ _ _ _ was c.in_ok-push-in-Visit.ensures.items (rw c.step-step.ensures.step at c.in_ok-push_children-in-Visit.ensures) c.requires.root c.loop-task.invariant.kept
     c.view.ensures.node c.view.ensures.below c.view.ensures.stands in
-    record { kept = c.loop-task.invariant.kept; sound = c.loop-task.invariant.sound; underway = turn.underway }
+    record { kept = c.loop-task.invariant.kept; sound = c.in_ok-is_settled-in-Visit.ensures.sound; underway = turn.underway }
 
 pub loop-task-smaller : goal.loop-task-smaller
 loop-task-smaller g c =

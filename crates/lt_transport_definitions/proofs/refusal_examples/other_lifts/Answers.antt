@@ -13,15 +13,15 @@ returns-clause-quotient c = (no_quotient_between (type_of_args "t" []) nat, (ref
 
 pub returns-clause-loose : goal.returns-clause-loose
 unfolding digits
-returns-clause-loose c = (identity_quotient bool, (refl, refl, tt), refl)
+returns-clause-loose c = (identity_quotient bool, (refl, refl), refl)
 
 pub returns-clause-respect : goal.returns-clause-respect
 unfolding digits
-returns-clause-respect c = (identity_quotient nat, (refl, refl, tt), refl)
+returns-clause-respect c = (identity_quotient nat, (refl, refl), refl)
 
 pub returns-clause-equation : goal.returns-clause-equation
 unfolding digits
-returns-clause-equation c = (registered_quotient box_entry (tyvar "a" ∷ []), (refl, refl, refl), refl)
+returns-clause-equation c = (registered_quotient box_entry (tyvar "a" ∷ []), refl, refl)
 
 pub returns-clause-image : goal.returns-clause-image
 unfolding digits

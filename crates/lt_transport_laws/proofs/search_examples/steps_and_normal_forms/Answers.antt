@@ -1,4 +1,4 @@
-use Rattle.std.proofs.Common.{ℕ, zero, suc, ◌<◌, refl, subst, sym, arith, inl, inr}
+use Rattle.std.proofs.Common.{ℕ, zero, suc, ◌<◌, refl, arith, inl, inr}
 use Rattle.lt_definitions.specs.Types.{bool}
 use Rattle.lt_definitions.specs.Terms.{TermTree, implies, bound_name}
 use Rattle.lt_definitions.specs.Samples.{con}

@@ -1,22 +1,33 @@
-use Rattle.std.proofs.Common.{sym, subst, length}
-use Rattle.lt_store.specs.Trees.{IsBelow, IsGrounded}
-use Rattle.lt_store.specs.contracts.node.NodePartialEq.TheImpl.{eq-value}
-use Rattle.lt_shared.proofs.NodeEquality.{node-same, same-node}
-use Rattle.lt_shared.proofs.SeparateLemmas.{grounded_insert, makes_insert, separate_from_distinct}
+use Rattle.lt_store.proofs.BoundLemmas.{bounded-extends}
+use Rattle.lt_store.proofs.ReplacedLemmas.{replacing-extends}
 use Rattle.lt_shared.proofs.shared_store.SharedStore.add.Goals as goal
 
 pub invariant_of-self : goal.invariant_of-self
-invariant_of-self c = rw c.in_err-id.ensures.err c.self.invariant
+invariant_of-self c =
+    let old = c.self.inside.nodes.keys in
+    let new = c.insert.new.nodes.keys in
+    record {
+      grounded = c.in_err-id.ensures.grounded;
+      separate = c.in_err-id.ensures.separate;
+      bounded = bounded-extends old new c.self.inside.bounds.items c.in_err-id.ensures.kept c.self.invariant.bounded;
+      replaced = replacing-extends old new c.self.inside.replaced c.in_err-id.ensures.kept c.self.invariant.replaced;
+    }
+
+pub note-requires-clause-bounded : goal.note-requires-clause-bounded
+note-requires-clause-bounded c = bounded-extends c.self.inside.nodes.keys c.insert.new.nodes.keys c.self.inside.bounds.items c.in_ok-id.ensures.kept c.self.invariant.bounded
+
+pub invariant_of-self-in_err-note : goal.invariant_of-self-in_err-note
+invariant_of-self-in_err-note c = record {
+  grounded = c.in_ok-id.ensures.grounded;
+  separate = c.in_ok-id.ensures.separate;
+  bounded = c.in_err-note.ensures;
+  replaced = replacing-extends c.self.inside.nodes.keys c.insert.new.nodes.keys c.self.inside.replaced c.in_ok-id.ensures.kept c.self.invariant.replaced;
+}
 
 pub invariant_of-self-2 : goal.invariant_of-self-2
 invariant_of-self-2 c = record {
-  grounded = subst IsGrounded (sym c.in_ok-id.ensures.keys) (grounded_insert _ _ _ c.self.invariant.grounded (subst (λ ns. IsBelow (length ns) c.args.node) (sym c.self.view_is) c.requires));
-  separate = separate_from_distinct eq-value.it same-node _ c.in_ok-id.ensures.unique;
+  grounded = c.in_ok-id.ensures.grounded;
+  separate = c.in_ok-id.ensures.separate;
+  bounded = c.in_ok-note.ensures;
+  replaced = replacing-extends c.self.inside.nodes.keys c.insert.new.nodes.keys c.self.inside.replaced c.in_ok-id.ensures.kept c.self.invariant.replaced;
 }
-
-pub returns-clause-ok : goal.returns-clause-ok
-returns-clause-ok c =
-    let stored = c.in_ok-id.ensures.stored in
-    let grounded = (invariant_of-self-2 c).grounded in
-    let keys = rw c.self.view_is at c.in_ok-id.ensures.keys in
-    makes_insert _ _ _ _ _ _ keys grounded c.requires stored.1 (node-same c.args.node stored.0 stored.2)

@@ -1,0 +1,5 @@
+pub mod Repeated
+pub mod Walked
+pub mod Replaced
+pub mod Stated
+pub mod EquationLemmas

@@ -1,0 +1,4 @@
+pub mod Filled
+pub mod Sequential
+pub mod Renamed
+pub mod TypedTermLemmas

@@ -1,0 +1,5 @@
+-- The definitions, in the order in which they are read.
+pub mod Programs
+pub mod Openings
+pub mod TypeLengths
+pub mod TypedTerms

@@ -1,0 +1,57 @@
+-- What the laws say on the order in which a session's quotients are declared.
+-- Source: this project's own.
+use Rattle.std.specs.Prelude.{◌≡◌, ℕ, List, [], ◌∷◌, true, None, Ok}
+use Rattle.lt_definitions.specs.Types.{TypeTree, bool, fun}
+use Rattle.lt_definitions.specs.Typing.{Signature, type_fault, typed}
+use Rattle.lt_definitions.specs.Items.{Item, Context, empty, new_type, context_of}
+use Rattle.lt_definitions.specs.Theory.{IsPlainTheory}
+use Rattle.lt_nameless.specs.AlphaEqualLines.{AreAlphaEqualStatements}
+use Rattle.lt_transport_definitions.specs.Sessions.{Typedef, Session, new_session, signature_of}
+use Rattle.lt_transport_definitions.specs.Quotients.{Quot, IsQuotBetween}
+use Rattle.lt_transport_definitions.specs.QuotientBlocks.{is_in_order}
+use Rattle.lt_transport_definitions.specs.Commands.{Command}
+use Rattle.lt_transport_definitions.specs.Blocks.{Gives}
+use Rattle.lt_transport_laws.specs.QuotientStatements.{AreInOrder}
+
+-- One signature, and alpha-equal statements under the same labels.
+abbrev pub AreAlphaEqualContexts : Context → Context → Type 0
+AreAlphaEqualContexts c d =
+    (c.signature ≡ d.signature) × AreAlphaEqualStatements c.statements d.statements
+
+-- What a session declares and states is what a valid plain theory does, up to alpha equality.
+abbrev pub IsOfTheory : Session → Type 0
+IsOfTheory s = (items : List Item) × IsPlainTheory items
+    × AreAlphaEqualContexts s.context (context_of empty items)
+
+-- A typedef over a type that was declared before it.
+pub record IsTypedefInOrder (sig : Signature) (t : Typedef) : Type 0 where
+  pub raw : TypeTree
+  pub predicate : typed sig [] t.predicate ≡ Ok (fun raw bool)
+  pub sound : type_fault sig raw ≡ None
+  pub order : is_in_order sig raw (new_type t.name t.params) ≡ true
+
+-- Each of these is.
+abbrev pub AreTypedefsInOrder : Signature → List Typedef → Type 0
+AreTypedefsInOrder sig [] = Unit {0}
+AreTypedefsInOrder sig (t ∷ ts) = IsTypedefInOrder sig t × AreTypedefsInOrder sig ts
+
+-- A session of a valid theory whose typedefs and quotients are in order.
+pub record IsOrderedSession (s : Session) : Type 0 where
+  pub theory : IsOfTheory s
+  pub typedefs : AreTypedefsInOrder (signature_of s) s.typedefs
+  pub quotients : AreInOrder (signature_of s) s.quotients
+
+-- The session before the first command is one.
+abbrev pub NewSessionsAreOrdered : Type 0
+NewSessionsAreOrdered = (limit : ℕ) → IsOrderedSession (new_session limit)
+
+-- What a command gives leaves it so.
+abbrev pub SessionsStayOrdered : Type 0
+SessionsStayOrdered = (s : Session) (c : Command) (items : List Item) (later : Session)
+    → IsOrderedSession s → Gives s c items later → IsOrderedSession later
+
+-- In such a session there is a quotient between any two types without a fault.
+abbrev pub SessionsHaveQuotients : Type 0
+SessionsHaveQuotients = (s : Session) (abs raw : TypeTree) → IsOrderedSession s
+    → type_fault (signature_of s) abs ≡ None → type_fault (signature_of s) raw ≡ None
+    → (q : Quot) × IsQuotBetween s.registry s.quotients abs raw q

@@ -1,0 +1,16 @@
+//! Laws of the sessions to which commands lead. Each function does nothing: its contract is the law.
+ghost use Rattle.lt_transport_laws.specs.KeptStatements.{NewSessionsAreKept, SessionsAreKept, KeptSessionsAreScoped, KeptStatementsAreBoolean, RunsHaveOneEnd};
+
+/// What commands give leaves a session in order, sound, with binders, and in step; and then the
+/// premises of the other laws on sessions hold, and each of its statements is boolean.
+pub fn sessions_are_kept()
+    ensures new { NewSessionsAreKept }
+    ensures kept { SessionsAreKept }
+    ensures scoped { KeptSessionsAreScoped }
+    ensures boolean { KeptStatementsAreBoolean }
+{}
+
+/// A run over a text that is cut in one way has one end.
+pub fn runs_have_one_end()
+    ensures { RunsHaveOneEnd }
+{}

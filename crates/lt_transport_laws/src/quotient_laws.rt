@@ -1,0 +1,17 @@
+//! Laws of quotients between types. Each function does nothing: its contract is the law.
+ghost use Rattle.lt_transport_laws.specs.QuotientStatements.{QuotientsExist};
+ghost use Rattle.lt_transport_laws.specs.OrderStatements.{NewSessionsAreOrdered, SessionsStayOrdered, SessionsHaveQuotients};
+
+/// Between two types without a fault there is a quotient, where the raw type of each registered one
+/// is declared before its abstract type.
+pub fn quotients_exist()
+    ensures { QuotientsExist }
+{}
+
+/// So it is in each session to which commands lead: what they declare and state is, up to alpha
+/// equality, a valid plain theory, and typedefs and quotients are in order.
+pub fn sessions_stay_ordered()
+    ensures new { NewSessionsAreOrdered }
+    ensures kept { SessionsStayOrdered }
+    ensures exist { SessionsHaveQuotients }
+{}
