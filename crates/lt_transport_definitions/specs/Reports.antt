@@ -9,7 +9,7 @@ use Rattle.lt_definitions.specs.Theory.{Refusal}
 use Rattle.lt_definitions.specs.Printing.{report, summary_lines, count_line}
 use Rattle.lt_transport_definitions.specs.Commands.{CommandRefusal, as_item}
 use Rattle.lt_transport_definitions.specs.RefusalTexts.{printed_refusal}
-use Rattle.lt_transport_definitions.specs.Places.{File, InFile, in_file, printed_place, first_past}
+use Rattle.lt_texts.specs.Files.{File, InFile, in_file, printed_place, first_past}
 use Rattle.lt_transport_definitions.specs.TheoryWalks.{Unread, bad_byte, bad_char, bad_header, bad_command, bad_syntax, End, too_long, no_header, unread_at, refused_at, accepted, theory_limit}
 
 -- The summary: a line for each item, and behind a text that was accepted the line of counts. Where
