@@ -125,7 +125,8 @@ abbrev pub IsClear : List Lexeme → Type 0
 IsClear (a_sign OpenSquare ∷ ws) = ⊥
 IsClear ws = Unit {0}
 
--- What stands behind a term doesn't go on it: a constant without type arguments takes those that stand there.
+-- What stands behind a term doesn't go on it: a constant without type arguments takes those that
+-- stand there.
 abbrev pub EndsThere : TermText → List Lexeme → Type 0
 EndsThere (word c []) (a_sign OpenSquare ∷ rest) = ⊥
 EndsThere x rest = Unit {0}

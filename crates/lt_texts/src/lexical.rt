@@ -1,4 +1,5 @@
-//! What a text is cut into, and the laws of that cutting. Each function does nothing: its contract is the law.
+//! What a text is cut into, and the laws of that cutting. Each function does nothing: its contract
+//! is the law.
 ghost use Rattle.std.specs.Prelude.{◌≡◌, ◌<◌, ◌↔◌, ◌++◌, ℕ, List, Some, None, MatchOption, true, false, length, encode_utf8_all};
 ghost use Rattle.std.specs.Str.{all_scalars};
 ghost use Rattle.lt_texts.specs.Tokens.{Scanned, token_at};
@@ -63,7 +64,8 @@ pub enum Lexed {
     BadChar(usize),
 }
 
-/// The token that is found at the front of a text is the longest front that is spelt as a token, and is spelt as no other kind; where none is found, no front is.
+/// The token that is found at the front of a text is the longest front that is spelt as a token, and
+/// is spelt as no other kind; where none is found, no front is.
 #[tactic(auto, using(crate::proofs::TokenEnds::longest_found))]
 pub fn tokens_are_longest()
     ensures { (text : List ℕ) → MatchOption (token_at text) (NoToken text) (λ t. IsLongest text t) }
@@ -72,7 +74,9 @@ pub fn tokens_are_longest()
 /// What is spelt as a token is found as that token where what follows doesn't go on it.
 #[tactic(auto, using(crate::proofs::TokenEnds::spelt_found))]
 pub fn spelt_tokens_are_found()
-    ensures { (kind : TokenKind) (word rest : List ℕ) → is_spelt kind word ≡ true → stops kind rest ≡ true → token_at (word ++ rest) ≡ Some (record { kind = kind; spelling = word; rest = rest }) }
+    ensures { (kind : TokenKind) (word rest : List ℕ)
+        → is_spelt kind word ≡ true → stops kind rest ≡ true
+        → token_at (word ++ rest) ≡ Some (record { kind = kind; spelling = word; rest = rest }) }
 {}
 
 /// What is behind white space and comments is what they lead to and no further.
@@ -86,13 +90,17 @@ pub fn tokens_take_characters()
     ensures { (s : Left) → IsToken (lexed s) → length (after s).ahead < length s.ahead }
 {}
 
-/// What is spelt as a token behind white space and comments, and isn't gone on, is read as that token.
+/// What is spelt as a token behind white space and comments, and isn't gone on, is read as that
+/// token.
 pub fn spelt_tokens_are_read()
-    ensures { (s : Left) (kind : TokenKind) (word rest : List ℕ) → IsPast s.ahead (word ++ rest) → is_spelt kind word ≡ true → stops kind rest ≡ true → IsNext s kind word rest }
+    ensures { (s : Left) (kind : TokenKind) (word rest : List ℕ)
+        → IsPast s.ahead (word ++ rest) → is_spelt kind word ≡ true → stops kind rest ≡ true
+        → IsNext s kind word rest }
 {}
 
 /// Of a text that encodes characters, all of them are ahead.
 #[tactic(auto, using(crate::proofs::NextTokens::all_ahead))]
 pub fn encoded_characters_are_ahead()
-    ensures { (cs : List ℕ) → all_scalars cs ≡ true → left_of (encode_utf8_all cs) ≡ record { source = encode_utf8_all cs; ahead = cs } }
+    ensures { (cs : List ℕ) → all_scalars cs ≡ true
+        → left_of (encode_utf8_all cs) ≡ record { source = encode_utf8_all cs; ahead = cs } }
 {}

@@ -45,8 +45,8 @@ pub fn texts_of_items()
         ≡ codes "axiom N : p" }
     ensures def_item { printed_pieces (item_text (def_item (codes "N") nat p))
         ≡ codes "def N : nat := p" }
-    ensures typedef_item { printed_pieces (item_text (typedef_item (codes "N") (codes "a" ∷ codes "b" ∷ []) p
-        (codes "L") (codes "A") (codes "B")))
+    ensures typedef_item { printed_pieces (item_text (typedef_item (codes "N")
+        (codes "a" ∷ codes "b" ∷ []) p (codes "L") (codes "A") (codes "B")))
         ≡ codes "typedef N 'a 'b : p by L abs A rep B" }
     ensures lemma_item { printed_pieces (item_text (lemma_item (codes "N") p
         (by_assume q ∷ by_thm (codes "L") ∷ [])))
@@ -58,8 +58,8 @@ pub fn texts_of_commands()
     ensures law { printed_pieces (command_text (law_command (codes "W") (codes "L")))
         ≡ codes "law W L" }
     ensures corr { printed_pieces (command_text (corr_command (codes "C"))) ≡ codes "corr C" }
-    ensures relator { printed_pieces (command_text (relator_command (codes "K") (codes "R") (codes "M")
-        (codes "E") (codes "Q") (codes "O")))
+    ensures relator { printed_pieces (command_text (relator_command (codes "K") (codes "R")
+        (codes "M") (codes "E") (codes "Q") (codes "O")))
         ≡ codes "relator K R M E Q O" }
     ensures property { printed_pieces (command_text (property_command (codes "L")))
         ≡ codes "property L" }
@@ -71,9 +71,11 @@ pub fn texts_of_commands()
         ≡ codes "lifting_typedef q" }
     ensures parametric { printed_pieces (command_text (parametric_command (codes "q")))
         ≡ codes "parametric q" }
-    ensures param_rule { printed_pieces (command_text (param_rule_command (codes "N") (codes "L") (codes "M")))
+    ensures param_rule { printed_pieces (command_text (param_rule_command (codes "N") (codes "L")
+        (codes "M")))
         ≡ codes "param_rule N L M" }
-    ensures carry { printed_pieces (command_text (carry_command (codes "N") (codes "E") (codes "L")))
+    ensures carry { printed_pieces (command_text (carry_command (codes "N") (codes "E")
+        (codes "L")))
         ≡ codes "carry N E L" }
     ensures abs_eq { printed_pieces (command_text (abs_eq_command (codes "c"))) ≡ codes "abs_eq c" }
     ensures rep_eq { printed_pieces (command_text (rep_eq_command (codes "c"))) ≡ codes "rep_eq c" }

@@ -13,7 +13,8 @@ pub enum Ending {
     TooLong,
     /// The text isn't of the form that is read.
     NotBuilt,
-    /// At the item with this number, counted from 1, the first that isn't valid over those before it.
+    /// At the item with this number, counted from 1, the first that isn't valid over those before
+    /// it.
     AtItem(usize),
 }
 
