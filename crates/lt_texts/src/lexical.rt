@@ -64,8 +64,8 @@ pub enum Lexed {
     BadChar(usize),
 }
 
-/// The token that is found at the front of a text is the longest front that is spelt as a token, and
-/// is spelt as no other kind; where none is found, no front is.
+/// The token that is found at the front of a text is the longest front that is spelt as a token,
+/// and is spelt as no other kind; where none is found, no front is.
 #[tactic(auto, using(crate::proofs::TokenEnds::longest_found))]
 pub fn tokens_are_longest()
     ensures { (text : List ℕ) → MatchOption (token_at text) (NoToken text) (λ t. IsLongest text t) }
