@@ -1,5 +1,5 @@
 -- A type alone and a term alone: at each place one of an answer and a fault, in one way. And a header.
-use Rattle.std.proofs.Common.{◌≡◌, ℕ, ◌∙◌, ap, sym, refl, subst, inl, inr, List, [], ◌∷◌, ◌++◌, append_assoc, append-nil}
+use Rattle.std.proofs.Common.{◌≡◌, ℕ, ◌∙◌, ap, sym, refl, subst, inl, inr, true, false, List, [], ◌∷◌, ◌++◌, append_assoc}
 use Rattle.std.specs.Prelude.{◌⊎◌, Some}
 use Rattle.lt_definitions.specs.Types.{Chars, TypeTree, type_variable}
 use Rattle.lt_definitions.specs.Terms.{TermTree}
@@ -7,19 +7,20 @@ use Rattle.lt_texts.specs.declared.lexical.TokenKind.{TokenKind}
 use Rattle.lt_texts.specs.declared.lexical.TokenKind.TheVariants as kinds
 use Rattle.lt_texts.specs.declared.lexical.TokenKind.TheVariants.{OpenSquare, CloseSquare}
 use Rattle.lt_texts.specs.Tokens.{Scanned}
+use Rattle.lt_texts.specs.Spelling.{is_spelt}
 use Rattle.lt_texts.specs.Texts.{Left}
 use Rattle.lt_texts.specs.Lexemes.{Lexeme, a_name, a_variable, a_number, a_sign, lexeme}
 use Rattle.lt_texts.specs.Reading.{IsNextToken, Reads}
 use Rattle.lt_texts.specs.Writing.{type_lexemes, TermText, word, bound, free, lambda, applied, term_lexemes, term_of_text}
 use Rattle.lt_texts.specs.Pieces.{AreWritten}
-use Rattle.lt_texts.specs.Forms.{Form, header_again, header_text, sentence_text, sentences_text}
+use Rattle.lt_texts.specs.Forms.{Form, without_header, header_again, header_text}
 use Rattle.lt_texts.specs.WrongPlaces.{Wrong, bad_header, bad_syntax, Language, IsWhole, IsViable, IsFront, IsWrong, Stands, HeaderFailsAt, BeginsWithType, BeginsWithTerm, EndsThere, EndsAt, IsTypeAt, IsTermAt, TypeFailsAt, TermFailsAt}
 use Rattle.lt_texts.proofs.ReadingOrder.{one_token, GoesOn, reads_compare}
 use Rattle.lt_grammar.proofs.OneWay.{one_type, one_term_there}
 use Rattle.lt_grammar.proofs.Splits.{type_splits, term_splits}
 use Rattle.lt_grammar.proofs.Sentences.{sentence_goes_on}
 use Rattle.lt_grammar.proofs.FirstWrong.{one-row, no-whole, stop-behind, same-wrong}
-use Rattle.lt_grammar.proofs.Expected.{Expected, a_type, a_term, Spelt}
+use Rattle.lt_grammar.proofs.Expected.{a_type, a_term, Spelt}
 use Rattle.lt_grammar.proofs.Standing.{Standing, standing, wrong_there}
 
 -- ---- one of the two stands
@@ -199,3 +200,17 @@ header_no_fault f s a e (hs, g, q) (ws, front, at, r, wrong) = by (reads_compare
 pub one_header_fault : (f : Form) (s : Left) (e d : Wrong) → HeaderFailsAt f s e → HeaderFailsAt f s d → e ≡ d
 one_header_fault f s e d (ws, p, at, r, w) (us, q, to, k, x) =
     one-failing (IsWhole f) bad_header s e d (ws, at, r, front-viable f ws p, w) (us, to, k, front-viable f us q, x)
+
+-- where no header was read, its word would be empty, which no token is
+no-empty : (k : TokenKind) (cs : List ℕ) → a_name [] ≡ lexeme k cs → is_spelt k cs ≡ true → ⊥
+no-empty kinds.Name cs e h =
+    let same : [] ≡ cs = cc e in
+    let clash : false ≡ true = ap (is_spelt kinds.Name) same ∙ h in
+    absurd (cc clash)
+no-empty k cs e h = absurd (cc e)
+
+pub no_header_stands : (words : List Chars) (s a : Left) → Stands s (header_text (without_header words)) a → ⊥
+no_header_stands words s a (ws, (mid, e, h), r) =
+    let read : Reads s (a_name [] ∷ mid) a = subst (λ (z : List Lexeme). Reads s z a) e r in
+    let t = read.0 in let n = read.1 in
+    no-empty t.kind t.spelling read.2 n.longest.spelt

@@ -132,7 +132,7 @@ open-sign = (λ cs. refl, refl, open-stops, refl)
 close-sign : IsSign Close 41
 close-sign = (λ cs. refl, refl, close-stops, refl)
 
-pub open-square : IsSign OpenSquare 91
+open-square : IsSign OpenSquare 91
 open-square = (λ cs. refl, refl, open-square-stops, refl)
 
 close-square : IsSign CloseSquare 93

@@ -1,21 +1,20 @@
 -- At each place where a command may begin stands a command, the end or a fault; at a text's begin its header or a fault; and each
 -- text has a reading or a first wrong place.
-use Rattle.std.proofs.Common.{◌≡◌, ℕ, zero, suc, ◌<◌, ◌≤◌, ◌∙◌, ap, sym, refl, subst, inl, inr, List, [], ◌∷◌, ◌++◌, length, arith, Option, Some, None}
+use Rattle.std.proofs.Common.{◌≡◌, ℕ, zero, suc, ◌<◌, ◌≤◌, ◌∙◌, ap, sym, refl, subst, inl, inr, List, [], ◌∷◌, ◌++◌, length, arith, append-nil, Option, Some, None}
 use Rattle.std.specs.Prelude.{◌⊎◌}
 use Rattle.lt_definitions.specs.Types.{Chars}
-use Rattle.lt_texts.specs.declared.lexical.Token.{Token as Placed}
 use Rattle.lt_texts.specs.declared.lexical.Lexed.{Lexed}
 use Rattle.lt_texts.specs.declared.lexical.Lexed.TheVariants.{Token, End, BadByte, BadChar}
 use Rattle.lt_texts.specs.declared.lexical.TokenKind.TheVariants.{OpenBrace, CloseBrace, Semicolon}
 use Rattle.lt_texts.specs.Tokens.{Scanned}
 use Rattle.lt_texts.specs.Texts.{Left, left_of, lexed, after, place_of, IsToken}
-use Rattle.lt_texts.specs.Lexemes.{Lexeme, a_name, a_variable, a_number, a_sign, lexeme}
+use Rattle.lt_texts.specs.Lexemes.{Lexeme, a_name, a_sign, lexeme}
 use Rattle.lt_texts.specs.Reading.{IsNextToken, Shows, Reads}
 use Rattle.lt_texts.specs.Commands.{Command}
 use Rattle.lt_texts.specs.Pieces.{AreWritten}
-use Rattle.lt_texts.specs.Forms.{Form, Sentence, header_again, a_command, header_text, sentence_text, sentences_text, IsAllowed, AreAllowed, HasCommands}
-use Rattle.lt_texts.specs.WrongPlaces.{Wrong, bad_header, bad_command, bad_byte, bad_char, IsWhole, IsRest, IsViable, IsFront, IsWrong, called, AreHeaders, Stands, Begins, NextCommand, AtEnd, FailsAt, HeaderFailsAt, IsFirstWrong}
-use Rattle.lt_texts.proofs.ReadingOrder.{reads_append}
+use Rattle.lt_texts.specs.Forms.{Form, Sentence, header_again, a_command, header_text, sentence_text, sentences_text, IsAllowed, commands_of, HasCommands}
+use Rattle.lt_texts.specs.WrongPlaces.{Wrong, bad_header, bad_command, bad_byte, bad_char, IsWhole, IsRest, IsFront, IsWrong, called, AreHeaders, Stands, Begins, NextCommand, AtEnd, FailsAt, HeaderFailsAt, IsFirstWrong}
+use Rattle.lt_texts.proofs.ReadingOrder.{reads_append, GoesOn, reads_compare}
 use Rattle.lt_texts.proofs.Readings.{next_found, lexed_shown}
 use Rattle.lt_texts.proofs.TokenTexts.{token_shortens}
 use Rattle.lt_grammar.specs.declared.words.Head.{Head}
@@ -28,11 +27,11 @@ use Rattle.lt_grammar.specs.Words.{head_of, head_word}
 use Rattle.lt_grammar.proofs.Distinct.{IsHead, head_found, found_head}
 use Rattle.lt_grammar.proofs.RowReading.{head_of_part, is-head}
 use Rattle.lt_grammar.proofs.RowPieces.{split_written, sentence_written, written_sentence, may_allowed, allowed_may}
-use Rattle.lt_grammar.proofs.Sentences.{join_sentences, sentences_go_on, sentence_not_empty}
+use Rattle.lt_grammar.proofs.Sentences.{join_sentences, sentences_go_on, sentence_not_empty, one_sentences}
 use Rattle.lt_grammar.proofs.FirstWrong.{one-row, fault_is_first_wrong, header_is_first_wrong}
 use Rattle.lt_grammar.proofs.TextLaws.{header_begins, command_goes_on, end_has_commands}
 use Rattle.lt_grammar.proofs.Expected.{Expected, exactly, lines, Spelt, join_spelt, split_spelt, expected_parts, parts_spelt, spelt_parts}
-use Rattle.lt_grammar.proofs.Standing.{IsBad, StandsWhole, StandsInPart, Standing, standing, wrong_there}
+use Rattle.lt_grammar.proofs.Standing.{IsBad, Standing, standing, wrong_there}
 
 -- ---- places get nearer to the end
 
@@ -302,3 +301,21 @@ each_text f text = by (header_or_fault f (left_of text))
     by : HeaderOr f (left_of text) → EachText f text
     by (inl (s, h)) = text-by (suc (length s.ahead)) f text [] s (omega arith) (header_begins f text s h)
     by (inr (e, h)) = inr (e, header_is_first_wrong f text e h)
+
+-- ---- what a text begins with
+
+-- the lexemes between two places are one row
+same-lexemes : (s a : Left) (ws vs : List Lexeme) → Reads s ws a → Reads s vs a → ws ≡ vs
+same-lexemes s a ws vs r q = by (reads_compare s a a ws vs r q)
+  where
+    by : GoesOn a a ws vs → ws ≡ vs
+    by (inl ([], e, g)) = sym (e ∙ append-nil ws)
+    by (inl (v ∷ more, e, g)) = let less = shorter a a v more g in absurd (omega (arith, less))
+    by (inr (v, more, e, g)) = let less = shorter a a v more g in absurd (omega (arith, less))
+
+pub one_beginning : (f : Form) (text : List ℕ) (cs ds : List Command) (s : Left) → Begins f text cs s → Begins f text ds s → cs ≡ ds
+one_beginning f text cs ds s (xs, a, (ws, w, r), e) (ys, b, (vs, v, q), d) =
+    let same : vs ≡ ws = same-lexemes (left_of text) s vs ws q r in
+    let one = one_sentences f (header_again ∷ xs) (header_again ∷ ys) ws (tt, a) (tt, b) w
+    (subst (λ (z : List Lexeme). AreWritten (sentences_text f (header_again ∷ ys)) z []) same v) in
+    e ∙ ap commands_of (sym one) ∙ sym d

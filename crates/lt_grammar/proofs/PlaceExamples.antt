@@ -1,8 +1,7 @@
 -- A lemma with the places of its word and of its line.
 use Rattle.std.proofs.Common.{◌≡◌, ℕ, refl, true, List, [], ◌∷◌, ◌++◌, codes, false}
-use Rattle.std.specs.Prelude.{chars}
 use Rattle.std.specs.Str.Lossy.{utf8_valid_len}
-use Rattle.std.specs.Str.{is_utf8}
+use Rattle.std.specs.Str.{chars, is_utf8}
 use Rattle.lt_definitions.specs.Characters.{behind_gap}
 use Rattle.lt_definitions.specs.Items.{lemma_item}
 use Rattle.lt_definitions.specs.Rules.{by_thm}
@@ -10,23 +9,17 @@ use Rattle.lt_definitions.specs.Samples.{p}
 use Rattle.lt_texts.specs.declared.lexical.TokenKind.{TokenKind}
 use Rattle.lt_texts.specs.declared.lexical.TokenKind.TheVariants.{Name, OpenBrace, CloseBrace, Semicolon, Colon}
 use Rattle.lt_texts.specs.Spelling.{is_spelt, stops}
-use Rattle.lt_texts.specs.Texts.{Left}
 use Rattle.lt_texts.specs.Lexemes.{Lexeme, a_name, a_sign, lexeme}
 use Rattle.lt_texts.specs.Writing.{word}
 use Rattle.lt_texts.specs.Commands.{item_command}
 use Rattle.lt_texts.specs.Pieces.{sign_piece, semicolon, line_text, head_text}
 use Rattle.lt_texts.specs.Forms.{plain_text}
 use Rattle.lt_texts.specs.WrongPlaces.{Stands}
-use Rattle.lt_texts.specs.CommandPlaces.{IsFirstPlace, LinesAt, NextPlaced}
+use Rattle.lt_texts.specs.CommandPlaces.{IsFirstPlace, NextPlaced}
 use Rattle.lt_texts.proofs.GapLemmas.{gap_exact}
-use Rattle.lt_grammar.proofs.Cuts.{Cut, Cuts, nothing_cut, space-stops, stops-at, Stopped}
+use Rattle.lt_grammar.proofs.Cuts.{Cuts, nothing_cut, space-stops, Stopped}
 use Rattle.lt_grammar.proofs.PieceCuts.{is_ascii_name, ascii_name, semicolon_ends}
-use Rattle.lt_grammar.proofs.WrongExamples.{at, read-cuts}
-
--- one lexeme and those behind it
-put : (text : List ℕ) (w : Lexeme) (more : List ℕ) (ws : List Lexeme) (rest : List ℕ) → Cut text w more → Cuts more ws rest → Cuts text (w ∷ ws) rest
-unfolding Cuts
-put text w more ws rest c l = (more, c, l)
+use Rattle.lt_grammar.proofs.WrongExamples.{at, read-cuts, put}
 
 -- a word behind a gap, and a sign
 named : (text name more : List ℕ) (ws : List Lexeme) (rest : List ℕ) → behind_gap false text ≡ name ++ more → is_ascii_name name ≡ true → Stopped more → Cuts more ws rest → Cuts text (a_name name ∷ ws) rest

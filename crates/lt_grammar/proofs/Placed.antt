@@ -1,5 +1,5 @@
 -- A command that stands somewhere has one place, and so has each of its lines.
-use Rattle.std.proofs.Common.{◌≡◌, ℕ, ◌∙◌, ap, sym, refl, subst, inl, inr, List, [], ◌∷◌, ◌++◌, append_assoc, append-nil}
+use Rattle.std.proofs.Common.{◌≡◌, ℕ, ◌∙◌, ap, sym, refl, subst, inl, inr, List, [], ◌∷◌, ◌++◌, append_assoc}
 use Rattle.std.specs.Prelude.{codes}
 use Rattle.std.specs.List.{flat_map}
 use Rattle.lt_texts.specs.declared.lexical.TokenKind.TheVariants.{OpenBrace, CloseBrace, Semicolon, Colon}
@@ -15,7 +15,7 @@ use Rattle.lt_texts.specs.Commands.{Command, item_command}
 use Rattle.lt_texts.specs.Pieces.{Piece, word_piece, sign_piece, name_piece, number_piece, variable_piece, type_piece, statement_piece, term_piece, semicolon, line_text, head_text, IsWritten, AreWritten}
 use Rattle.lt_texts.specs.Forms.{Form, Sentence, header_again, a_command, header_text, sentence_text, sentences_text, IsAllowed}
 use Rattle.lt_texts.specs.WrongPlaces.{AreHeaders, Stands, NextCommand}
-use Rattle.lt_texts.specs.CommandPlaces.{IsFirstPlace, LinesAt, LemmaAt, CommandAt, NextPlaced}
+use Rattle.lt_texts.specs.CommandPlaces.{IsFirstPlace, LinesAt, CommandAt, NextPlaced}
 use Rattle.lt_texts.proofs.GapLemmas.{gap_exact}
 use Rattle.lt_texts.proofs.ReadingOrder.{reads_append, reads_split, GoesOn, reads_compare}
 use Rattle.lt_grammar.specs.declared.words.RuleWord.{RuleWord}
@@ -179,7 +179,7 @@ command-placed f s (item_command (lemma_item l t rules)) s' h =
     let d = stands_split k.0 s' (flat_map line_text rules) closing k.2 in
     let lines = lines-placed k.0 rules d.0 d.1 in
     (lines.0, (k.0, k.1, d.0, lines.1, d.2))
-command-placed f s c s' h = ([], refl, h)
+command-placed f s c s' h = ([], (refl, h))
 
 one-command-at : (f : Form) (s : Left) (c : Command) (places marks : List ℕ) (a b : Left) → CommandAt f s c places a → CommandAt f s c marks b → places ≡ marks
 one-command-at f s (item_command (lemma_item l t rules)) places marks a b (m, h, n, k, z) (o, i, p, j, y) =

@@ -1,21 +1,20 @@
 -- From each place on stands what is expected there, or lexemes with which it begins and something wrong behind them.
-use Rattle.std.proofs.Common.{◌≡◌, ℕ, zero, suc, ◌<◌, ◌≤◌, ◌∙◌, ap, sym, refl, subst, inl, inr, List, [], ◌∷◌, ◌++◌, length, arith, append_assoc, append-nil}
+use Rattle.std.proofs.Common.{◌≡◌, ℕ, zero, suc, ◌<◌, ◌∙◌, ap, sym, refl, subst, inl, inr, List, [], ◌∷◌, ◌++◌, length, arith, append_assoc, append-nil}
 use Rattle.std.specs.Prelude.{◌⊎◌}
-use Rattle.lt_definitions.specs.Types.{Chars, TypeTree}
-use Rattle.lt_texts.specs.declared.lexical.Token.{Token as Placed}
+use Rattle.lt_definitions.specs.Types.{Chars}
 use Rattle.lt_texts.specs.declared.lexical.Lexed.{Lexed}
 use Rattle.lt_texts.specs.declared.lexical.Lexed.TheVariants.{Token, End, BadByte, BadChar}
 use Rattle.lt_texts.specs.declared.lexical.TokenKind.TheVariants.{OpenSquare}
 use Rattle.lt_texts.specs.Tokens.{Scanned}
 use Rattle.lt_texts.specs.Texts.{Left, lexed, after, place_of, IsToken}
-use Rattle.lt_texts.specs.Lexemes.{Lexeme, a_name, a_variable, a_number, a_sign, lexeme}
+use Rattle.lt_texts.specs.Lexemes.{Lexeme, a_sign, lexeme}
 use Rattle.lt_texts.specs.Reading.{IsNextToken, Shows, Reads}
-use Rattle.lt_texts.specs.Writing.{type_lexemes, arguments_lexemes, word}
-use Rattle.lt_texts.specs.WrongPlaces.{Wrong, bad_byte, bad_char, Language, IsViable, IsStop, IsWrong, EndsThere}
+use Rattle.lt_texts.specs.Writing.{type_lexemes, word}
+use Rattle.lt_texts.specs.WrongPlaces.{Wrong, bad_byte, bad_char, Language, IsWrong, EndsThere}
 use Rattle.lt_texts.proofs.ReadingOrder.{one_token, token_no_end, token_no_byte, token_no_char}
 use Rattle.lt_texts.proofs.Readings.{next_found, lexed_shown}
 use Rattle.lt_texts.proofs.TokenTexts.{token_shortens}
-use Rattle.lt_grammar.proofs.Expected.{Expected, a_type, types_to_square, brackets, Spells, Spelt, join_spelt, split_spelt, IsFull, Meets, meets, full, some}
+use Rattle.lt_grammar.proofs.Expected.{Expected, a_type, types_to_square, brackets, Spelt, join_spelt, split_spelt, IsFull, Meets, meets, full, some}
 
 -- ---- what a lexeme makes of all that is expected
 

@@ -1,20 +1,19 @@
 -- Texts with a wrong place of each kind.
-use Rattle.std.proofs.Common.{lit<, ◌≡◌, ℕ, ◌<◌, ◌∙◌, ap, sym, refl, subst, inl, inr, Bool, true, false, List, [], ◌∷◌, ◌++◌, length, arith, codes, Option, Some, None}
-use Rattle.std.specs.Prelude.{if◌then◌else◌, chars, MatchOption}
-use Rattle.std.specs.Str.{is_utf8}
+use Rattle.std.proofs.Common.{lit<, ◌≡◌, ℕ, ◌<◌, ◌∙◌, ap, sym, refl, subst, inl, inr, Bool, true, List, [], ◌∷◌, ◌++◌, arith, codes, Option, Some, None}
+use Rattle.std.specs.Prelude.{if◌then◌else◌, MatchOption}
+use Rattle.std.specs.Str.{chars, is_utf8}
 use Rattle.std.specs.Str.Lossy.{utf8_valid_len}
 use Rattle.lt_texts.specs.declared.lexical.Token.{Token as Placed}
-use Rattle.lt_texts.specs.declared.lexical.Lexed.{Lexed}
 use Rattle.lt_texts.specs.declared.lexical.Lexed.TheVariants.{Token, End, BadByte, BadChar}
 use Rattle.lt_texts.specs.declared.lexical.TokenKind.TheVariants.{Name, Number, OpenSquare, CloseSquare, Semicolon, Colon}
 use Rattle.lt_texts.specs.Tokens.{Scanned, run_at, token_at}
 use Rattle.lt_texts.specs.Spelling.{NoToken, IsLongest}
-use Rattle.lt_texts.specs.Texts.{Left, left_of, place_of, lexed}
+use Rattle.lt_texts.specs.Texts.{Left, left_of, place_of}
 use Rattle.lt_texts.specs.Lexemes.{Lexeme, a_name, a_variable, a_number, a_sign, lexeme}
 use Rattle.lt_texts.specs.Reading.{IsNextToken, Shows, Reads}
 use Rattle.lt_texts.specs.Commands.{item_command}
-use Rattle.lt_texts.specs.Forms.{Form, plain_text, header_again, a_command, header_text, sentence_text}
-use Rattle.lt_texts.specs.WrongPlaces.{Wrong, bad_header, bad_command, bad_syntax, bad_byte, bad_char, Language, IsWhole, IsRest, IsViable, IsFront, IsWrong, called, Begins, FailsAt, HeaderFailsAt, IsFirstWrong, BeginsWithTerm, EndsThere, TermFailsAt}
+use Rattle.lt_texts.specs.Forms.{plain_text, header_again, a_command, header_text, sentence_text}
+use Rattle.lt_texts.specs.WrongPlaces.{Wrong, bad_header, bad_command, bad_syntax, bad_byte, bad_char, Language, IsWhole, IsRest, IsViable, IsFront, IsWrong, Begins, FailsAt, HeaderFailsAt, IsFirstWrong, BeginsWithTerm, EndsThere, TermFailsAt}
 use Rattle.lt_definitions.specs.Types.{TypeTree, type_variable, type_constructor, no_types, type_and, row, bool}
 use Rattle.lt_definitions.specs.Items.{const_item}
 use Rattle.lt_texts.specs.Writing.{type_lexemes, types_lexemes, word, bound, free, lambda, applied}
@@ -26,7 +25,7 @@ use Rattle.lt_texts.proofs.TokenEnds.{longest_found}
 use Rattle.lt_texts.proofs.Readings.{next_found, lexed_shown, spans_reads}
 use Rattle.lt_grammar.specs.declared.words.Head.TheVariants.{Header, Item}
 use Rattle.lt_grammar.specs.declared.words.ItemWord.TheVariants.{Const}
-use Rattle.lt_grammar.proofs.Cuts.{Cut, Cuts, nothing_cut, cuts_spans, cut_name, cut-sign, spaced, open-square, space-stops}
+use Rattle.lt_grammar.proofs.Cuts.{Cut, Cuts, nothing_cut, cuts_spans, cut_name, cut-sign, spaced, space-stops}
 use Rattle.lt_grammar.proofs.PieceCuts.{is_ascii_name, ascii_name, semicolon_sign, semicolon_ends}
 use Rattle.lt_grammar.proofs.FirstWrong.{fault_is_first_wrong, header_is_first_wrong}
 use Rattle.lt_grammar.proofs.TextLaws.{header_begins}
@@ -38,6 +37,11 @@ at text cs = record { source = text; ahead = cs }
 
 pub read-cuts : (text cs : List ℕ) (ws : List Lexeme) (rest : List ℕ) → Cuts cs ws rest → Reads (at text cs) ws (at text rest)
 read-cuts text cs ws rest c = spans_reads (at text cs) ws (at text rest) (cuts_spans (at text cs) ws rest c)
+
+-- one lexeme and those behind it
+pub put : (text : List ℕ) (w : Lexeme) (more : List ℕ) (ws : List Lexeme) (rest : List ℕ) → Cut text w more → Cuts more ws rest → Cuts text (w ∷ ws) rest
+unfolding Cuts
+put text w more ws rest c l = (more, c, l)
 
 -- the token that is cut next, and its place
 next-cut : (s : Left) (w : Lexeme) (rest : List ℕ) (c : Cut s.ahead w rest)
@@ -315,8 +319,9 @@ square-begun = a_name (codes "f") ∷ a_sign OpenSquare ∷ []
 
 square-cuts : Cuts term-text square-begun []
 square-cuts =
-    word-cut (codes "f") (codes "[") (a_sign OpenSquare ∷ []) [] refl
-    (spaced (codes "[") (a_sign OpenSquare ∷ []) [] tt (cut-sign OpenSquare 91 open-square [] [] [] (nothing_cut [])))
+    put term-text (a_name (codes "f")) (codes " [") (a_sign OpenSquare ∷ []) []
+    (record { kind = Name; word = codes "f"; gap = refl; spelt = ascii_name (codes "f") refl; stops = space-stops (codes "["); same = refl })
+    (put (codes " [") (a_sign OpenSquare) [] [] [] (record { kind = OpenSquare; word = codes "["; gap = refl; spelt = refl; stops = refl; same = refl }) (nothing_cut []))
 
 term-end : Shows (at term-text []) End
 unfolding utf8_valid_len chars is_utf8 lib.Utf8.encode

@@ -6,7 +6,7 @@ ghost use Rattle.lt_definitions.specs.Rules.{by_thm};
 ghost use Rattle.lt_definitions.specs.Samples.{p};
 ghost use Rattle.lt_texts.specs.CommandPlaces.{NextPlaced};
 ghost use Rattle.lt_texts.specs.Commands.{item_command};
-ghost use Rattle.lt_texts.specs.Files.{File, joined_text, in_file, printed_place};
+ghost use Rattle.lt_texts.specs.Files.{joined_text, in_file, printed_place};
 ghost use Rattle.lt_texts.specs.Forms.{plain_text};
 ghost use Rattle.lt_texts.specs.Texts.{left_of};
 ghost use Rattle.lt_texts.specs.WrongPlaces.{bad_header, bad_command, bad_syntax, bad_byte, bad_char, IsFirstWrong, TermFailsAt};

@@ -5,18 +5,19 @@ ghost use Rattle.lt_definitions.specs.Items.{Item};
 ghost use Rattle.lt_definitions.specs.Printing.{words, printed_type, printed_term, printed_rule, printed_head, report};
 ghost use Rattle.lt_definitions.specs.Rules.{Rule};
 ghost use Rattle.lt_definitions.specs.Terms.{TermTree};
-ghost use Rattle.lt_definitions.specs.Types.{TypeTree};
+ghost use Rattle.lt_definitions.specs.Types.{Chars, TypeTree};
 ghost use Rattle.lt_texts.specs.CommandPlaces.{NextPlaced};
 ghost use Rattle.lt_texts.specs.Commands.{Command};
-ghost use Rattle.lt_texts.specs.Forms.{Form, header_text, IsText, HasCommands, HasPlainItems};
+ghost use Rattle.lt_texts.specs.Forms.{Form, without_header, header_text, IsText, HasCommands, HasPlainItems};
 ghost use Rattle.lt_texts.specs.Lexemes.{Lexeme};
 ghost use Rattle.lt_texts.specs.Named.{IsTypeNamed, IsReadable, AreReadableItems, AreAlikeItems};
 ghost use Rattle.lt_texts.specs.Pieces.{rule_text, head_text, printed_piece};
-ghost use Rattle.lt_texts.specs.Reading.{Reads, IsRead};
+ghost use Rattle.lt_texts.specs.Reading.{Shows, Reads, IsRead};
 ghost use Rattle.lt_texts.specs.Spelling.{stops};
 ghost use Rattle.lt_texts.specs.Texts.{Left, left_of};
 ghost use Rattle.lt_texts.specs.WrongPlaces.{Wrong, IsClear, Stands, Begins, NextCommand, AtEnd, FailsAt, HeaderFailsAt, IsFirstWrong, IsTypeAt, IsTermAt, TypeFailsAt, TermFailsAt};
 ghost use Rattle.lt_texts.specs.Writing.{TermText, term_of_text, type_lexemes, term_lexemes};
+ghost use Rattle.lt_texts.specs.declared.lexical.Lexed.TheVariants.{End};
 ghost use Rattle.lt_texts.specs.declared.lexical.TokenKind.TheVariants.{Name};
 
 /// A list of lexemes is the text of one list of commands.
@@ -65,6 +66,12 @@ pub fn command_goes_on()
 pub fn end_has_commands()
     ensures { (f : Form) (text : List ℕ) (cs : List Command) (s : Left)
         → Begins f text cs s → AtEnd f s → HasCommands f text cs }
+{}
+
+/// Up to a place a text has one list of commands.
+pub fn one_beginning()
+    ensures { (f : Form) (text : List ℕ) (cs ds : List Command) (s : Left)
+        → Begins f text cs s → Begins f text ds s → cs ≡ ds }
 {}
 
 /// At a place one command stands, and it ends at one place.
@@ -169,6 +176,12 @@ pub fn one_header_fault()
         → HeaderFailsAt f s e → HeaderFailsAt f s d → e ≡ d }
 {}
 
+/// Where no header was read yet, none is passed over: its word would be empty.
+pub fn no_header_without_a_word()
+    ensures { (words : List Chars) (s a : Left)
+        → Stands s (header_text (without_header words)) a → ⊥ }
+{}
+
 /// A text of bytes has a reading or a first wrong place.
 pub fn reading_or_wrong_place()
     ensures { (f : Form) (text : List ℕ) → ((cs : List Command) × HasCommands f text cs)
@@ -240,6 +253,19 @@ pub fn printed_terms_are_read_within()
     ensures { (t : TermTree) → IsReadable t → (x : TermText) × IsAlphaEqual (term_of_text x) t
         × ((s : Left) (rest : List ℕ) → s.ahead ≡ printed_term [] t ++ rest → stops Name rest ≡ true
         → Reads s (term_lexemes x []) (record s { ahead = rest })) }
+{}
+
+/// What is printed of a type stands alone in its text.
+pub fn printed_types_stand_alone()
+    ensures { (t : TypeTree) → IsTypeNamed t → (s : Left)
+        × IsTypeAt (left_of (encode_utf8_all (printed_type t))) t s × Shows s End }
+{}
+
+/// What is printed of a term stands alone in its text, as an alpha-equal term.
+pub fn printed_terms_stand_alone()
+    ensures { (t : TermTree) → IsReadable t → (u : TermTree) × (s : Left)
+        × IsTermAt (left_of (encode_utf8_all (printed_term [] t))) u s × Shows s End
+        × IsAlphaEqual u t }
 {}
 
 /// What is printed of a line are its pieces, with one space between.
