@@ -74,7 +74,7 @@ passed (c ∷ cs) h = by (c == 35) (is_white c) h
     by false false h = refl
     by _ _ h = absurd (cc h)
 
-name-gap : (c cs : List ℕ) → is_name c ≡ true → behind_gap false (c ++ cs) ≡ c ++ cs
+pub name-gap : (c cs : List ℕ) → is_name c ≡ true → behind_gap false (c ++ cs) ≡ c ++ cs
 name-gap [] cs h = absurd (cc h)
 name-gap (d ∷ ds) cs h = passed (d ∷ (ds ++ cs)) (name-begins d (ds ++ cs) (and_parts _ _ h).0)
 

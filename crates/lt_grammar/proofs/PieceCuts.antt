@@ -4,7 +4,9 @@ use Rattle.std.specs.Prelude.{if◌then◌else◌, ◌&&◌, ◌||◌, ◌==◌,
 use Rattle.std.specs.List.{list_all}
 use Rattle.std.specs.Fmt.{decimal}
 use Rattle.std.specs.Char.{is_ascii_alphabetic, is_ascii_alphanumeric, is_ascii_digit, digit_value}
+use Rattle.std.specs.Str.{all_scalars}
 use Rattle.std.specs.Str.Parse.{AllDigits, digits_value_after}
+use lib.Utf8.{low_scalar}
 use Rattle.std.proofs.lemmas.Fmt.{decimal_is_IsNumeral}
 use Rattle.std.proofs.lemmas.Str.{digit_value_digit}
 use Rattle.std.proofs.lemmas.Str.Parse.{digit_from_value}
@@ -72,6 +74,22 @@ ascii_name (c ∷ cs) h =
     let both = and_parts (nat_lt c 128 && (is_ascii_alphabetic c || (c == 95))) (list_all goes-ascii cs) h in
     let one = and_parts (nat_lt c 128) (is_ascii_alphabetic c || (c == 95)) both.0 in
     and_from (starts_name c) (list_all is_xid_continue cs) (starts_name-ascii c (ltb-true c 128 one.0) ∙ one.1) (ascii-goes-on cs both.1)
+
+ascii-goes-scalars : (cs : List ℕ) → list_all goes-ascii cs ≡ true → all_scalars cs ≡ true
+ascii-goes-scalars [] h = refl
+ascii-goes-scalars (c ∷ cs) h =
+    let both = and_parts (goes-ascii c) (list_all goes-ascii cs) h in
+    let one = and_parts (nat_lt c 128) (is_ascii_alphanumeric c || (c == 95)) both.0 in
+    let less = ltb-true c 128 one.0 in
+    and_from _ (all_scalars cs) (low_scalar c (omega (arith, less))) (ascii-goes-scalars cs both.1)
+
+pub ascii_scalars : (w : List ℕ) → is_ascii_name w ≡ true → all_scalars w ≡ true
+ascii_scalars [] h = refl
+ascii_scalars (c ∷ cs) h =
+    let both = and_parts (nat_lt c 128 && (is_ascii_alphabetic c || (c == 95))) (list_all goes-ascii cs) h in
+    let one = and_parts (nat_lt c 128) (is_ascii_alphabetic c || (c == 95)) both.0 in
+    let less = ltb-true c 128 one.0 in
+    and_from _ (all_scalars cs) (low_scalar c (omega (arith, less))) (ascii-goes-scalars cs both.1)
 
 -- the digits of a number
 digits-numeral : (ds : List ℕ) → AllDigits 10 ds → list_all is_ascii_digit ds ≡ true

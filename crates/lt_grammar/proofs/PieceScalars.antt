@@ -15,7 +15,7 @@ use Rattle.lt_texts.specs.Named.{IsReadablePiece, AreReadable, IsReadableItem, A
 use Rattle.lt_grammar.proofs.Scalars.{AreScalars, scalars_append, decimal_scalars, type_scalars, term_scalars}
 use Rattle.lt_grammar.proofs.PrintedPieces.{printed_rule_pieces, printed_head_pieces}
 
-sign-scalars : (k : TokenKind) → AreScalars (printed_sign k)
+pub sign-scalars : (k : TokenKind) → AreScalars (printed_sign k)
 sign-scalars Name = refl
 sign-scalars TypeVariable = refl
 sign-scalars Number = refl

@@ -34,7 +34,7 @@ use Rattle.lt_grammar.proofs.PieceCuts.{is_ascii_name, ascii_name, open_brace, c
 use Rattle.lt_grammar.proofs.PieceScalars.{report_scalars}
 use Rattle.lt_grammar.proofs.PrintedPieces.{printed_rule_pieces, printed_head_pieces}
 
-rule-name : (w : RuleWord) → is_ascii_name (rule_row w).word ≡ true
+pub rule-name : (w : RuleWord) → is_ascii_name (rule_row w).word ≡ true
 rule-name Assume = refl
 rule-name Weaken = refl
 rule-name Refl = refl
@@ -56,7 +56,7 @@ rule-name Select = refl
 rule-name Ccontr = refl
 rule-name Thm = refl
 
-item-name : (w : ItemWord) → is_ascii_name (item_row w).word ≡ true
+pub item-name : (w : ItemWord) → is_ascii_name (item_row w).word ≡ true
 item-name TypeItem = refl
 item-name Const = refl
 item-name Axiom = refl
