@@ -30,7 +30,8 @@ use Rattle.lt_grammar.proofs.RowPieces.{split_written, sentence_written, written
 use Rattle.lt_grammar.proofs.Sentences.{join_sentences, sentences_go_on, sentence_not_empty, one_sentences}
 use Rattle.lt_grammar.proofs.FirstWrong.{one-row, fault_is_first_wrong, header_is_first_wrong}
 use Rattle.lt_grammar.proofs.TextLaws.{header_begins, command_goes_on, end_has_commands}
-use Rattle.lt_grammar.proofs.Expected.{Expected, exactly, lines, Spelt, join_spelt, split_spelt, expected_parts, parts_spelt, spelt_parts}
+use Rattle.lt_grammar.proofs.Expected.{Expected, exactly, lines, Spelt, join_spelt, split_spelt}
+use Rattle.lt_grammar.proofs.RowsExpected.{expected_parts, parts_spelt, spelt_parts}
 use Rattle.lt_grammar.proofs.Standing.{IsBad, Standing, standing, wrong_there}
 
 -- ---- places get nearer to the end

@@ -14,7 +14,8 @@ use Rattle.lt_texts.specs.WrongPlaces.{Wrong, bad_byte, bad_char, Language, IsWr
 use Rattle.lt_texts.proofs.ReadingOrder.{one_token, token_no_end, token_no_byte, token_no_char}
 use Rattle.lt_texts.proofs.Readings.{next_found, lexed_shown}
 use Rattle.lt_texts.proofs.TokenTexts.{token_shortens}
-use Rattle.lt_grammar.proofs.Expected.{Expected, a_type, types_to_square, brackets, Spelt, join_spelt, split_spelt, IsFull, Meets, meets, full, some}
+use Rattle.lt_grammar.proofs.Expected.{Expected, a_type, types_to_square, brackets, Spelt, join_spelt, split_spelt, IsFull, Meets}
+use Rattle.lt_grammar.proofs.RowsExpected.{meets, full, some}
 
 -- ---- what a lexeme makes of all that is expected
 

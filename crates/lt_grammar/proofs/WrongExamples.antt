@@ -1,5 +1,5 @@
 -- Texts with a wrong place of each kind.
-use Rattle.std.proofs.Common.{lit<, ◌≡◌, ℕ, ◌<◌, ◌∙◌, ap, sym, refl, subst, inl, inr, Bool, true, List, [], ◌∷◌, ◌++◌, arith, codes, Option, Some, None}
+use Rattle.std.proofs.Common.{lit<, ◌≡◌, ℕ, ◌∙◌, ap, sym, refl, subst, inl, inr, Bool, true, List, [], ◌∷◌, ◌++◌, arith, codes, Option, Some, None}
 use Rattle.std.specs.Prelude.{if◌then◌else◌, MatchOption}
 use Rattle.std.specs.Str.{chars, is_utf8}
 use Rattle.std.specs.Str.Lossy.{utf8_valid_len}
