@@ -46,6 +46,17 @@ impl<'a> Lexer<'a> {
         }
     }
 
+    /// The same text at the same place. It takes constant time.
+    pub fn copy(&self) -> Lexer<'a>
+        ensures { result ≡ self.now }
+    {
+        Lexer {
+            source: self.source,
+            text: self.text,
+            at: self.at,
+        }
+    }
+
     /// The next token, or why there is none; then the lexer stays where it is and answers the same again. It takes time in the bytes that it passes over. It is inlined, since a call costs as much as a short token.
     #[inline(always)]
     pub fn next_token(&mut self) -> Lexed
