@@ -16,7 +16,7 @@ use Rattle.lt_script.specs.Machine.{Move, step_part, step_header, step_on, State
 use Rattle.lt_script.specs.Stops.{IsWaiting}
 use Rattle.lt_script.specs.Reading.{IsWhole, IsRest, IsViable, IsFront}
 use Rattle.lt_script.proofs.Taken.{type_kept, term_kept, takes_fixed, takes_number, first_run, takes_text, takes_header}
-use Rattle.lt_script.proofs.Sound.{Language, BeginsSentence, sound_sentence, sound_header, finished, accepts}
+use Rattle.lt_script.proofs.Sound.{BeginsSentence, sound_sentence, sound_header, finished, accepts}
 use Rattle.lt_grammar.proofs.Splits.{text_splits}
 
 abbrev stack_of : Option State → List Symbol
