@@ -6,9 +6,10 @@ use Rattle.std.specs.List.{zip, range_with_len}
 use Rattle.lt_definitions.specs.Types.{TypeTree, type_instance}
 use Rattle.lt_definitions.specs.Typing.{Signature}
 use Rattle.lt_transport_definitions.specs.Notation.{◌~◌}
+use Rattle.lt_transport_definitions.specs.Constants.{is_declared_as}
 use Rattle.lt_transport_definitions.specs.Relations.{Correspondence, Parametrised, Registry, correspondence_of, form_for, kind_of, is_constructor}
 use Rattle.lt_transport_definitions.specs.Answers.{needs_test, needs}
-use Rattle.lt_transport_definitions.specs.RelatorForm.{RelatorPart, relator_corr, type_number, functions_from, over_types, is_declared_as}
+use Rattle.lt_transport_definitions.specs.RelatorForm.{RelatorPart, relator_corr, type_number, functions_from, over_types}
 
 -- l1~r1 -> .. -> ln~rn -> s -> q r1 .. rn -> bool, where s is the correspondence's raw type at l1
 -- .. ln

@@ -12,7 +12,7 @@ ghost use Rattle.lt_transport_definitions.specs.Reduction.{as_printed};
 ghost use Rattle.lt_transport_definitions.specs.Commands.{relator_command, property_command, domain_command, rule_command, lifting_command, lifting_typedef_command, quotient_type_command, lift_command, parametric_command, param_rule_command, equiv_command, implies_command, carry_command, abs_eq_command, rep_eq_command, as_item, missing_law, relator_shape, property_shape, domain_shape, rule_shape, duplicate_property, duplicate_domain, not_quotient, quotient_shape, quotient_abstract, quotient_relation, quotient_order, bare_parameter, not_parametric, not_parametric_at, no_quotient, respect_differs, image_differs, higher_order_argument, no_rep_equation};
 ghost use Rattle.lt_transport_definitions.specs.Blocks.{ComesOf};
 ghost use Rattle.lt_transport_definitions.specs.Samples.{over_typedef_t, without_laws, list_relator, AddsLines};
-ghost use Rattle.lt_transport_definitions.specs.RefusalSamples.{over_boxes, lawless_boxes, over_few_laws, over_correspondence, over_quotient_of_box, over_transport, over_form, over_quotient_of_t, over_lists, over_relator, cup, box};
+ghost use Rattle.lt_transport_definitions.specs.RefusalSamples.{over_boxes, lawless_boxes, over_few_laws, over_correspondence, over_quotient_of_box, over_transport, over_form, over_quotient_of_t, over_lists, over_relator, relcompp_type, other_relcompp_type, over_relcompp, cup, box};
 
 /// The first law that a command asks for and that isn't registered.
 pub fn missing_laws()
@@ -160,4 +160,13 @@ pub fn other_lifts()
     ensures image { ComesOf over_transport (carry_command (codes "n") (codes "same") (codes "Pz"))
         (Err (image_differs (as_printed [] falsity))) }
     ensures open { ComesOf over_boxes (equiv_command (codes "n") x) (Err (as_item open_term)) }
+{}
+
+/// A parametrised form is defined by relcompp, which has to have the table's type.
+pub fn forms_by_relcompp()
+    ensures typed { AddsLines (over_relcompp relcompp_type) (parametric_command (codes "arr")) (
+        codes "def pcr_arr : (fun (fun 'l1 (fun 'r1 bool)) (fun (fun nat 'l1) (fun (arr 'r1) bool))) := (\\x0 (fun 'l1 (fun 'r1 bool)) (relcompp[(fun nat 'l1) (fun nat 'r1) (arr 'r1)] (rel_fun[nat nat 'l1 'r1] eq[nat] %x0) Ta['r1]))\n"
+        ++ codes "lemma pcr_arr_eq : (eq[(fun (fun nat 'r1) (fun (arr 'r1) bool))] (pcr_arr['r1 'r1] eq['r1]) Ta['r1])\n") }
+    ensures other { ComesOf (over_relcompp other_relcompp_type) (parametric_command (codes "arr"))
+        (Err (not_parametric (codes "arr"))) }
 {}
