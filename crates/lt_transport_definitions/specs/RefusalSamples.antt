@@ -1,7 +1,7 @@
 -- Sessions over quotients, forms and rules, of which the examples of refusals speak.
 -- Source: this project's own.
 use Rattle.std.specs.Prelude.{List, [], ◌∷◌, ◌++◌, if◌then◌else◌, map, codes, false, unwrap_or}
-use Rattle.lt_definitions.specs.Samples.{nat, tyvar, con}
+use Rattle.lt_definitions.specs.Samples.{nat, tyvar, con, con_at, app, typedef_t}
 use Rattle.lt_definitions.specs.Types.{Chars, same_name, TypeTree, bool}
 use Rattle.lt_definitions.specs.Terms.{falsity}
 use Rattle.lt_definitions.specs.Items.{Item, type_item, const_item, axiom_item, empty, context_of}
@@ -112,17 +112,23 @@ over_quotient_of_t = let P : WithType = record { term = con "P"; ty = nat ⇒ bo
       rep = codes "rep_t";
     }) P) P))
 
--- lists, and the three statements of their relator
+-- the type of a relator of lists
+abbrev pub list_relator_type : TypeTree
+list_relator_type = relator_type (codes "list") (tyvar "a" ∷ []) (tyvar "b" ∷ [])
+
+-- the mapping of lists, and the three statements of a relator of theirs with this name
+abbrev pub list_statements : Chars → List Item
+list_statements R =
+    const_item (codes "map") (mapping_type (codes "list") (tyvar "a" ∷ []) (tyvar "b" ∷ []))
+    ∷ axiom_item (codes "list_eq") (equality_statement (codes "list") R (tyvar "a" ∷ [])).term
+    ∷ axiom_item (codes "list_quotient")
+    (quotient_statement (codes "list") R (codes "map") (1 ∷ [])).term
+    ∷ axiom_item (codes "list_comp") (composition_statement (codes "list") R (1 ∷ [])).term ∷ []
+
+-- lists with a relator
 abbrev pub list_items : List Item
 list_items = type_item (codes "list") 1 ∷ type_item (codes "other") 1
-    ∷ const_item (codes "list_all2") (relator_type (codes "list") (tyvar "a" ∷ []) (tyvar "b" ∷ []))
-    ∷ const_item (codes "map") (mapping_type (codes "list") (tyvar "a" ∷ []) (tyvar "b" ∷ []))
-    ∷ axiom_item (codes "list_eq")
-    (equality_statement (codes "list") (codes "list_all2") (tyvar "a" ∷ [])).term
-    ∷ axiom_item (codes "list_quotient")
-    (quotient_statement (codes "list") (codes "list_all2") (codes "map") (1 ∷ [])).term
-    ∷ axiom_item (codes "list_comp")
-    (composition_statement (codes "list") (codes "list_all2") (1 ∷ [])).term ∷ []
+    ∷ const_item (codes "list_all2") list_relator_type ∷ list_statements (codes "list_all2")
 
 -- the session over these
 abbrev pub over_lists : Session
@@ -162,10 +168,13 @@ other_relcompp_type = (tyvar "a" ~ tyvar "b") ⇒ (tyvar "a" ~ tyvar "c") ⇒ (t
 abbrev pub form_laws : List Chars
 form_laws = laws_of_lifting ++ laws_of_parametric
 
+-- the laws' constants, of which one has this type
+abbrev pub constants_but : Chars → TypeTree → List Item
+constants_but c ty = map (λ p. const_item p.0 (if same_name p.0 c then ty else p.1)) constant_types
+
 -- the laws' constants, with relcompp of a type; these laws; and the theorem of arr
 abbrev pub relcompp_items : TypeTree → List Item
-relcompp_items ty = map (λ p.
-    const_item p.0 (if same_name p.0 (codes "relcompp") then ty else p.1)) constant_types
+relcompp_items ty = constants_but (codes "relcompp") ty
     ++ (map (λ w. axiom_item w (unwrap_or (law_statement w) falsity)) form_laws
     ++ type_item (codes "nat") 0 ∷ type_item (codes "arr") 1
     ∷ four_declared (nat ⇒ tyvar "a") (arr (tyvar "a")) "Ra" "Aa" "Ba" "Ta"
@@ -176,3 +185,22 @@ abbrev pub over_relcompp : TypeTree → Session
 over_relcompp ty = session_behind
     (with_laws (behind_items (new_session 100) (relcompp_items ty)) form_laws)
     (lifting_block arr_entry arr_correspondence)
+
+-- lists whose relator has the name of the function relator
+abbrev pub rel_fun_items : List Item
+rel_fun_items = type_item (codes "list") 1
+    ∷ constants_but (codes "rel_fun") list_relator_type ++ list_statements (codes "rel_fun")
+
+-- the session over these
+abbrev pub over_other_rel_fun : Session
+over_other_rel_fun = behind_items (new_session 100) rel_fun_items
+
+-- a typedef whose raw type is a variable
+abbrev pub bare_items : List Item
+bare_items = const_item (codes "P") (tyvar "a" ⇒ bool) ∷ const_item (codes "z") (tyvar "a")
+    ∷ axiom_item (codes "Pz") (app (con_at "P" (tyvar "a" ∷ [])) (con_at "z" (tyvar "a" ∷ [])))
+    ∷ typedef_t (codes "a" ∷ []) (con_at "P" (tyvar "a" ∷ [])) ∷ []
+
+-- the session over these
+abbrev pub over_bare_typedef : Session
+over_bare_typedef = session_over bare_items

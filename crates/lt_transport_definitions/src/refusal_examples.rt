@@ -12,7 +12,7 @@ ghost use Rattle.lt_transport_definitions.specs.Reduction.{as_printed};
 ghost use Rattle.lt_transport_definitions.specs.Commands.{relator_command, property_command, domain_command, rule_command, lifting_command, lifting_typedef_command, quotient_type_command, lift_command, parametric_command, param_rule_command, equiv_command, implies_command, carry_command, abs_eq_command, rep_eq_command, as_item, missing_law, relator_shape, property_shape, domain_shape, rule_shape, duplicate_property, duplicate_domain, not_quotient, quotient_shape, quotient_abstract, quotient_relation, quotient_order, bare_parameter, not_parametric, not_parametric_at, no_quotient, respect_differs, image_differs, higher_order_argument, no_rep_equation};
 ghost use Rattle.lt_transport_definitions.specs.Blocks.{ComesOf};
 ghost use Rattle.lt_transport_definitions.specs.Samples.{over_typedef_t, without_laws, list_relator, AddsLines};
-ghost use Rattle.lt_transport_definitions.specs.RefusalSamples.{over_boxes, lawless_boxes, over_few_laws, over_correspondence, over_quotient_of_box, over_transport, over_form, over_quotient_of_t, over_lists, over_relator, relcompp_type, other_relcompp_type, over_relcompp, cup, box};
+ghost use Rattle.lt_transport_definitions.specs.RefusalSamples.{over_boxes, lawless_boxes, over_few_laws, over_correspondence, over_quotient_of_box, over_transport, over_form, over_quotient_of_t, over_lists, over_relator, relcompp_type, other_relcompp_type, over_relcompp, over_other_rel_fun, over_bare_typedef, cup, box};
 
 /// The first law that a command asks for and that isn't registered.
 pub fn missing_laws()
@@ -44,6 +44,9 @@ pub fn missing_laws()
 pub fn registered_already()
     ensures relator { ComesOf over_relator (relator_command list_relator)
         (Err (as_item (duplicate (codes "list")))) }
+    ensures relation { ComesOf over_other_rel_fun
+        (relator_command (record list_relator { rel = codes "rel_fun" }))
+        (Err (as_item (duplicate (codes "rel_fun")))) }
     ensures property { ComesOf over_correspondence (property_command (codes "T_right"))
         (Err (duplicate_property right_total (codes "T"))) }
     ensures domain { ComesOf over_correspondence (domain_command (codes "T_domain"))
@@ -93,9 +96,13 @@ pub fn other_quotients()
         (Err (not_quotient quotient_abstract)) }
     ensures relation { ComesOf over_boxes (lifting_command (codes "Q_term"))
         (Err (not_quotient quotient_relation)) }
+    ensures loose { ComesOf over_boxes (lifting_command (codes "Q_loose"))
+        (Err (not_quotient quotient_relation)) }
     ensures order { ComesOf over_boxes (lifting_command (codes "Q_late"))
         (Err (not_quotient quotient_order)) }
     ensures bare { ComesOf over_boxes (lifting_command (codes "Q_bare"))
+        (Err (bare_parameter (tyvar "a"))) }
+    ensures bare_typedef { ComesOf over_bare_typedef (lifting_typedef_command (codes "t"))
         (Err (bare_parameter (tyvar "a"))) }
     ensures lifted { AddsLines over_boxes (lifting_command (codes "Q_box")) (
         codes "lemma box_right_total : (right_total[(cup 'a) (box 'a)] T['a])\n"
