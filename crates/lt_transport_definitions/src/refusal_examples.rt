@@ -9,9 +9,10 @@ ghost use Rattle.lt_transport_definitions.specs.Forms.{property_head};
 ghost use Rattle.lt_transport_definitions.specs.RuleForm.{rule_prefix, rule_head, rule_relation, rule_types};
 ghost use Rattle.lt_transport_definitions.specs.RelatorForm.{relator_eq};
 ghost use Rattle.lt_transport_definitions.specs.Reduction.{as_printed};
-ghost use Rattle.lt_transport_definitions.specs.Commands.{relator_command, property_command, domain_command, rule_command, lifting_command, lifting_typedef_command, quotient_type_command, lift_command, parametric_command, param_rule_command, equiv_command, implies_command, carry_command, abs_eq_command, rep_eq_command, as_item, missing_law, relator_shape, property_shape, domain_shape, rule_shape, duplicate_property, duplicate_domain, not_quotient, quotient_shape, quotient_abstract, quotient_relation, quotient_order, bare_parameter, not_parametric, not_parametric_at, no_quotient, respect_differs, image_differs, higher_order_argument, no_rep_equation};
+ghost use Rattle.lt_texts.specs.Commands.{property_command, domain_command, rule_command, lifting_command, lifting_typedef_command, quotient_type_command, lift_command, parametric_command, param_rule_command, equiv_command, implies_command, carry_command, abs_eq_command, rep_eq_command};
+ghost use Rattle.lt_transport_definitions.specs.Commands.{as_item, missing_law, relator_shape, property_shape, domain_shape, rule_shape, duplicate_property, duplicate_domain, not_quotient, quotient_shape, quotient_abstract, quotient_relation, quotient_order, bare_parameter, not_parametric, not_parametric_at, no_quotient, respect_differs, image_differs, higher_order_argument, no_rep_equation};
 ghost use Rattle.lt_transport_definitions.specs.Blocks.{ComesOf};
-ghost use Rattle.lt_transport_definitions.specs.Samples.{over_typedef_t, without_laws, list_relator, AddsLines};
+ghost use Rattle.lt_transport_definitions.specs.Samples.{over_typedef_t, without_laws, list_relator, relator_by, AddsLines};
 ghost use Rattle.lt_transport_definitions.specs.RefusalSamples.{over_boxes, lawless_boxes, over_few_laws, over_correspondence, over_quotient_of_box, over_transport, over_form, over_quotient_of_t, over_lists, over_relator, relcompp_type, other_relcompp_type, over_relcompp, over_other_rel_fun, over_bare_typedef, cup, box};
 
 /// The first law that a command asks for and that isn't registered.
@@ -42,10 +43,10 @@ pub fn missing_laws()
 
 /// What is registered already.
 pub fn registered_already()
-    ensures relator { ComesOf over_relator (relator_command list_relator)
+    ensures relator { ComesOf over_relator (relator_by list_relator)
         (Err (as_item (duplicate (codes "list")))) }
     ensures relation { ComesOf over_other_rel_fun
-        (relator_command (record list_relator { rel = codes "rel_fun" }))
+        (relator_by (record list_relator { rel = codes "rel_fun" }))
         (Err (as_item (duplicate (codes "rel_fun")))) }
     ensures property { ComesOf over_correspondence (property_command (codes "T_right"))
         (Err (duplicate_property right_total (codes "T"))) }
@@ -79,12 +80,12 @@ pub fn names_that_are_there()
 /// Statements that haven't the form, and forms that are registered.
 pub fn other_forms()
     ensures relator { ComesOf over_lists
-        (relator_command (record list_relator { eq = codes "list_comp" }))
+        (relator_by (record list_relator { eq = codes "list_comp" }))
         (Err (relator_shape relator_eq)) }
     ensures property { ComesOf over_boxes (property_command (codes "Pz"))
         (Err (property_shape property_head)) }
     ensures domain { ComesOf over_boxes (domain_command (codes "Pz")) (Err domain_shape) }
-    ensures relator_there { AddsLines over_lists (relator_command list_relator) [] }
+    ensures relator_there { AddsLines over_lists (relator_by list_relator) [] }
     ensures domain_there { AddsLines over_boxes (rule_command (codes "eq_transfer")) [] }
 {}
 

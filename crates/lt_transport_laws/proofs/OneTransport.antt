@@ -21,7 +21,8 @@ use Rattle.lt_transport_definitions.specs.Correspondence.{ChosenStatement, chose
 use Rattle.lt_transport_definitions.specs.Search.{Top, equal, implied, Question, HasImage}
 use Rattle.lt_transport_definitions.specs.Reduction.{as_printed}
 use Rattle.lt_transport_definitions.specs.Sessions.{Session, rules_now}
-use Rattle.lt_transport_definitions.specs.Commands.{item_command, law_command, corr_command, relator_command, property_command, domain_command, rule_command, lifting_command, lifting_typedef_command, quotient_type_command, lift_command, parametric_command, param_rule_command, equiv_command, implies_command, carry_command, abs_eq_command, rep_eq_command, CommandRefusal, norm_limit, Addition, a_lemma, Registration, transport_registered}
+use Rattle.lt_texts.specs.Commands.{item_command, law_command, corr_command, relator_command, property_command, domain_command, rule_command, lifting_command, lifting_typedef_command, quotient_type_command, lift_command, parametric_command, param_rule_command, equiv_command, implies_command, carry_command, abs_eq_command, rep_eq_command}
+use Rattle.lt_transport_definitions.specs.Commands.{CommandRefusal, norm_limit, Addition, a_lemma, Registration, transport_registered}
 use Rattle.lt_transport_definitions.specs.Rows.{BlockOutcome, Row, ◌⊳◌, with_image, with_normal_form, adds, item_test, law_test}
 use Rattle.lt_transport_definitions.specs.Parts.{registration_test, name_test, names_added}
 use Rattle.lt_transport_definitions.specs.TransportRows.{question_of, laws_asked, size_test, transported, is_implied, adds_transport, transport_row}
@@ -175,7 +176,7 @@ each-one s (implies_command n t) o p h = one-transport s n implied t (registrati
 each-one s (item_command i) o p h = outcomes-one s (item_command i) o p refl
 each-one s (law_command w l) o p h = outcomes-one s (law_command w l) o p refl
 each-one s (corr_command c) o p h = outcomes-one s (corr_command c) o p refl
-each-one s (relator_command r) o p h = outcomes-one s (relator_command r) o p refl
+each-one s (relator_command K R M E Q O) o p h = outcomes-one s (relator_command K R M E Q O) o p refl
 each-one s (property_command l) o p h = outcomes-one s (property_command l) o p refl
 each-one s (domain_command l) o p h = outcomes-one s (domain_command l) o p refl
 each-one s (rule_command l) o p h = outcomes-one s (rule_command l) o p refl

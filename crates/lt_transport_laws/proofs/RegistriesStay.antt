@@ -3,7 +3,7 @@ use Rattle.std.specs.Prelude.{◌≡◌, ℕ, List, [], ◌∷◌, ◌++◌, Boo
 use Rattle.std.proofs.Common.{refl, subst, sym, ap, ◌∙◌, inl, inr}
 use Rattle.std.specs.List.{range_with_len}
 use Rattle.lt_definitions.specs.Types.{Chars, same_name, TypeTree}
-use Rattle.lt_transport_definitions.specs.Constants.{is_counted}
+use Rattle.lt_transport_definitions.specs.Constants.{is_declared_as, is_counted}
 use Rattle.lt_definitions.specs.Terms.{TermTree}
 use Rattle.lt_definitions.specs.Typing.{Signature, declared_arity}
 use Rattle.lt_definitions.specs.Theory.{duplicate}
@@ -12,9 +12,10 @@ use Rattle.lt_transport_definitions.specs.Relations.{Relator, Registry, relator_
 use Rattle.lt_transport_definitions.specs.Answers.{needs_test, wrong_where, first_wrong}
 use Rattle.lt_transport_definitions.specs.Reading.{arity_of}
 use Rattle.lt_transport_definitions.specs.RuleForm.{TransferRule}
-use Rattle.lt_transport_definitions.specs.RelatorForm.{RelatorPart, relator_con, relator_rel, relator_map, relator_eq, relator_quot, relator_comp, type_number, relator_type, mapping_type, equality_statement, quotient_statement, composition_statement, states, is_declared_as, relator_form}
+use Rattle.lt_transport_definitions.specs.RelatorForm.{RelatorPart, relator_con, relator_rel, relator_map, relator_eq, relator_quot, relator_comp, type_number, relator_type, mapping_type, equality_statement, quotient_statement, composition_statement, states, relator_form}
 use Rattle.lt_transport_definitions.specs.Sessions.{Session, signature_of}
-use Rattle.lt_transport_definitions.specs.Commands.{Command, item_command, law_command, corr_command, relator_command, property_command, domain_command, rule_command, lifting_command, lifting_typedef_command, quotient_type_command, lift_command, parametric_command, param_rule_command, equiv_command, implies_command, carry_command, abs_eq_command, rep_eq_command, CommandRefusal, as_item, rule_registered, Block, with_registration, session_behind}
+use Rattle.lt_texts.specs.Commands.{Command, item_command, law_command, corr_command, relator_command, property_command, domain_command, rule_command, lifting_command, lifting_typedef_command, quotient_type_command, lift_command, parametric_command, param_rule_command, equiv_command, implies_command, carry_command, abs_eq_command, rep_eq_command}
+use Rattle.lt_transport_definitions.specs.Commands.{CommandRefusal, as_item, rule_registered, Block, with_registration, session_behind}
 use Rattle.lt_transport_definitions.specs.Parts.{tests_before}
 use Rattle.lt_transport_definitions.specs.Blocks.{row_of, ComesOfRow}
 use Rattle.lt_transport_laws.specs.SessionStatements.{RegistriesStaySound}
@@ -110,7 +111,8 @@ sound-rows s (implies_command n t) d = λ e f g image h normal k. k
 sound-rows s (carry_command n e l) d = λ transport f t g m k. k
 sound-rows s (abs_eq_command c) d = λ e f n q k. k
 sound-rows s (rep_eq_command c) d = λ e f n q m k. k
-sound-rows s (relator_command r) d = λ eq e quot f comp g x h n m k.
+sound-rows s (relator_command K R M E Q O) d = λ eq e quot f comp g x h n m k.
+    let r : Relator = record { con = K; rel = R; mapping = M; eq = E; quot = Q; comp = O } in
     let same_relator : x ≡ r = form-same (signature_of s) r eq quot comp x h in
     let has_arguments : nat_lt 0 (arity_of (signature_of s) r.con) ≡ true = no-bool (not (same_name r.con (codes "fun"))) (nat_lt 0 (arity_of (signature_of s) r.con)) _ x h in
     subst (λ (y : Relator). AreSound (s.registry.relators ++ y ∷ [])) (sym same_relator)

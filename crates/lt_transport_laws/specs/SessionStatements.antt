@@ -8,10 +8,13 @@ use Rattle.lt_definitions.specs.Items.{Item, Context}
 use Rattle.lt_definitions.specs.Theory.{AreValid, IsPlainTheory}
 use Rattle.lt_transport_definitions.specs.Relations.{Relator, Parametrised, DomainRule}
 use Rattle.lt_transport_definitions.specs.Sessions.{LiftedEntry, Session, new_session, signature_of}
-use Rattle.lt_transport_definitions.specs.Commands.{Command, CommandRefusal, Block, session_behind}
+use Rattle.lt_texts.specs.Texts.{Left}
+use Rattle.lt_texts.specs.Commands.{Command}
+use Rattle.lt_texts.specs.Forms.{Form}
+use Rattle.lt_transport_definitions.specs.Commands.{Block, session_behind}
 use Rattle.lt_transport_definitions.specs.Rows.{BlockOutcome}
 use Rattle.lt_transport_definitions.specs.Blocks.{ComesOf, Gives}
-use Rattle.lt_transport_definitions.specs.TheoryWalks.{Placed, Unread, Cut, End, WalksOver, WalksCut, theory_commands, items_of_blocks}
+use Rattle.lt_transport_definitions.specs.TheoryWalks.{End, WalksFrom, RunsText, ChecksText, items_of_blocks}
 use Rattle.lt_transport_laws.specs.Statements.{IsRegistry}
 
 -- Named statements without loose bound names.
@@ -43,35 +46,21 @@ SessionsAreOne =
     (s : Session) (c : Command) (xs ys : List Item) (later other : Session) → IsScopedSession s
     → Gives s c xs later → Gives s c ys other → later ≡ other
 
--- Each session that the commands lead to has its binders.
-abbrev pub AreScopedAlong : Session → List (Placed Command) → Type 0
-AreScopedAlong s [] = Unit {0}
-AreScopedAlong s (c ∷ cs) =
-    IsScopedSession s
-    × ((items : List Item) (later : Session) → Gives s c.command items later
-    → AreScopedAlong later cs)
-
--- A walk over commands has one end.
-abbrev pub WalksAreOne : Type 0
-WalksAreOne =
-    (s : Session) (cs : List (Placed Command)) (wrong : Option (Unread × ℕ))
-    (xs ys : List (List Item)) (end other : End CommandRefusal)
-    → AreScopedAlong s cs → WalksOver theory_commands s cs wrong xs end
-    → WalksOver theory_commands s cs wrong ys other → end ≡ other
-
 -- The items that a walk gives are valid one after another, over those before the walk.
 abbrev pub WalksArePlain : Type 0
 WalksArePlain =
-    (s : Session) (cs : List (Placed Command)) (wrong : Option (Unread × ℕ))
-    (blocks : List (List Item)) (end : End CommandRefusal)
-    → WalksOver theory_commands s cs wrong blocks end → AreValid s.context (items_of_blocks blocks)
+    (f : Form) (s : Session) (at : Left) (blocks : List (List Item)) (end : End)
+    → WalksFrom f s at blocks end → AreValid s.context (items_of_blocks blocks)
 
--- The items of a run are a valid plain theory, however its text is cut.
+-- The items of a run are a valid plain theory.
 abbrev pub RunsArePlain : Type 0
-RunsArePlain =
-    (limit : ℕ) (cut : Cut Command) (blocks : List (List Item)) (end : End CommandRefusal)
-    → WalksCut theory_commands (new_session limit) cut blocks end
-    → IsPlainTheory (items_of_blocks blocks)
+RunsArePlain = (limit : ℕ) (text : List ℕ) (blocks : List (List Item)) (end : End)
+    → RunsText limit text blocks end → IsPlainTheory (items_of_blocks blocks)
+
+-- So are those of a check.
+abbrev pub ChecksArePlain : Type 0
+ChecksArePlain = (text : List ℕ) (blocks : List (List Item)) (end : End)
+    → ChecksText text blocks end → IsPlainTheory (items_of_blocks blocks)
 
 -- A block leaves the registry one that meets what the laws ask, where bool is declared without
 -- arguments.

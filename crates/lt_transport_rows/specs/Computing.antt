@@ -20,7 +20,8 @@ use Rattle.lt_transport_definitions.specs.Search.{Question, top_candidates}
 use Rattle.lt_transport_definitions.specs.Reduction.{as_printed}
 use Rattle.lt_transport_definitions.specs.Sessions.{Session, new_session, signature_of, rules_now}
 use Rattle.lt_transport_definitions.specs.Quotients.{raw_at, Quot, identity_quotient, relator_quotient, registered_quotient, composed_quotient, no_quotient_between, Quots, no_quots, quot_and, QuotCase, equal_types, one_relator, that_quotient, another_raw_type, nothing, case_of, missing_pair}
-use Rattle.lt_transport_definitions.specs.Commands.{Command, no_quotient, no_transport, Addition, item_of, session_behind}
+use Rattle.lt_texts.specs.Commands.{Command}
+use Rattle.lt_transport_definitions.specs.Commands.{no_quotient, no_transport, Addition, item_of, session_behind}
 use Rattle.lt_transport_definitions.specs.Rows.{BlockOutcome, Row, ◌⊳◌, with_value, with_form, with_quotient, with_image, with_normal_form, adds}
 use Rattle.lt_transport_definitions.specs.Parts.{tests_before}
 use Rattle.lt_transport_definitions.specs.RefusalTexts.{printed_refusal}
