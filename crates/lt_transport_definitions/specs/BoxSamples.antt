@@ -8,7 +8,7 @@ use Rattle.lt_definitions.specs.Terms.{TermTree}
 use Rattle.lt_definitions.specs.Items.{Item, type_item, const_item, axiom_item}
 use Rattle.lt_transport_definitions.specs.Notation.{WithType, ◌⇒◌, ◌~◌, ◌·◌, ◌≐◌, equality_at}
 use Rattle.lt_transport_definitions.specs.Constants.{apply, rel_fun, relcompp, domainp, quotient}
-use Rattle.lt_transport_definitions.specs.Relations.{right_total, Correspondence}
+use Rattle.lt_transport_definitions.specs.Relations.{Correspondence}
 use Rattle.lt_transport_definitions.specs.LawTexts.{further_statements}
 use Rattle.lt_transport_definitions.specs.Sessions.{Four, Session}
 use Rattle.lt_transport_definitions.specs.QuotientTerms.{identity_four}
@@ -141,7 +141,7 @@ abbrev pub over_correspondence : Session
 over_correspondence = fold with_registration over_boxes
     (corr_registered box_correspondence
     ∷ property_registered
-    (record { label = codes "T_right"; property = right_total; head = codes "T"; premises = [] })
+    (record { label = codes "T_right"; property = codes "right_total"; head = codes "T"; premises = [] })
     ∷ domain_registered (record {
       label = codes "T_domain";
       head = codes "T";

@@ -6,7 +6,7 @@ use Rattle.lt_definitions.specs.Types.{Chars, same_name, TypeTree}
 use Rattle.lt_definitions.specs.Terms.{TermTree}
 use Rattle.lt_definitions.specs.Items.{def_item, Context}
 use Rattle.lt_transport_definitions.specs.Notation.{WithType, ◌·◌}
-use Rattle.lt_transport_definitions.specs.Relations.{Relator, PropertyRule, DomainRule, same_property}
+use Rattle.lt_transport_definitions.specs.Relations.{Relator, PropertyRule, DomainRule}
 use Rattle.lt_transport_definitions.specs.Answers.{value_of, first_wrong}
 use Rattle.lt_transport_definitions.specs.RuleForm.{TransferRule, rule_form}
 use Rattle.lt_transport_definitions.specs.Sessions.{Four, QuotientEntry, Session, signature_of, statement_at}
@@ -100,7 +100,7 @@ registers ctx s (form_registered p) h k = record {
   transports = h.transports;
 }
 registers ctx s (property_registered r) h k = record {
-  properties = unless-one ctx (λ (q : PropertyRule). q.label) (λ e. same_property r.property e.property && same_name r.head e.head) s.registry.property_rules r h.properties k.0;
+  properties = unless-one ctx (λ (q : PropertyRule). q.label) (λ e. same_name r.property e.property && same_name r.head e.head) s.registry.property_rules r h.properties k.0;
   laws = h.laws;
   relators = h.relators;
   forms = h.forms;

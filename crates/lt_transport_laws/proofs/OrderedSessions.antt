@@ -1,4 +1,5 @@
 -- A session whose quotients are in order gives one whose quotients are.
+use Prim.Native.String.{String}
 use Rattle.std.specs.Prelude.{◌≡◌, ℕ, List, [], ◌∷◌, ◌++◌, Bool, true, false, ◌&&◌, if◌then◌else◌, Option, Some, None, Result, Ok, Err, fold, length, codes, unwrap_or, option_map, option_to_list}
 use Rattle.std.specs.Result.{result_unwrap_or}
 use Rattle.std.proofs.Common.{refl, sym, ap, ◌∙◌, subst, inl, inr}
@@ -26,7 +27,7 @@ use Rattle.lt_transport_definitions.specs.Answers.{first_wrong}
 use Rattle.lt_transport_definitions.specs.RuleForm.{TransferRule}
 use Rattle.lt_transport_definitions.specs.Sessions.{Typedef, QuotientEntry, Session, typedef_of}
 use Rattle.lt_texts.specs.Commands.{Command, item_command, law_command, corr_command, relator_command, property_command, domain_command, rule_command, lifting_command, lifting_typedef_command, quotient_type_command, lift_command, parametric_command, param_rule_command, equiv_command, implies_command, carry_command, abs_eq_command, rep_eq_command}
-use Rattle.lt_transport_definitions.specs.Commands.{QuotientPart, Addition, this_item, a_lemma, Registration, law_registered, corr_registered, relator_registered, form_registered, property_registered, domain_registered, rule_registered, quotient_registered, lifted_registered, transport_registered, Block, item_of, with_typedef_of, with_addition, with_registration, session_behind}
+use Rattle.lt_transport_definitions.specs.Commands.{Addition, this_item, a_lemma, Registration, law_registered, corr_registered, relator_registered, form_registered, property_registered, domain_registered, rule_registered, quotient_registered, lifted_registered, transport_registered, Block, item_of, with_typedef_of, with_addition, with_registration, session_behind}
 use Rattle.lt_transport_definitions.specs.AlphaItems.{IsAlphaEqualItem}
 use Rattle.lt_transport_definitions.specs.Parts.{tests_before}
 use Rattle.lt_transport_definitions.specs.QuotientBlocks.{QuotientTheorem, four_between, as_quotient, is_in_order, quotient_test}
@@ -189,7 +190,7 @@ quotients-kept s (a ∷ additions) = quotients-kept (with_addition s a) addition
 
 -- what the tests of a quotient's theorem tell
 
-pub test-holds : (b : Bool) (part : QuotientPart) → quotient_test b part ≡ None → b ≡ true
+pub test-holds : (b : Bool) (part : String) → quotient_test b part ≡ None → b ≡ true
 test-holds true part e = refl
 test-holds false part e = absurd (cc)
 
@@ -385,7 +386,7 @@ in-rows s h (lifting_command l) = λ t e n quot f m x g o p q u v items a w. (
     record {
       named = refl;
       sound = theorem-sound s.context.signature t quot (theory-stated s h.theory l t e) f;
-      order = test-holds (is_in_order s.context.signature quot.raw quot.abs) _ p;
+      order = test-holds (is_in_order s.context.signature quot.raw quot.abs) "order" p;
     },
     (tt, (tt, (tt, (tt, tt)))),
   ),
@@ -409,7 +410,7 @@ in-rows s h (quotient_type_command q params r l) = λ t e n m o p u v w items a 
     let R : WithType = with_its_type s.context.signature r in
     let additions : List Addition = additions_of (adds_class_quotient params (class_entry q params R)) in
     let sound = raw-sound s (context_of empty h.theory.0) h.theory.2 (theory-context s h.theory) r
-    (test-holds (is_relation_on_one (type_of s.context.signature r)) _ o) in (
+    (test-holds (is_relation_on_one (type_of s.context.signature r)) "relation" o) in (
       tt,
       (
         record {

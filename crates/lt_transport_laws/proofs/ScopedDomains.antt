@@ -185,7 +185,7 @@ scoped-rows s h (lifting_typedef_command q) = λ n t e m.
       ),
     )
 scoped-rows s h (quotient_type_command q params r l) = λ t e n m o p u v w.
-    let R : HasNoLooseNames r = related-none s.context.signature r (test-holds (is_relation_on_one (type_of s.context.signature r)) _ o) in
+    let R : HasNoLooseNames r = related-none s.context.signature r (test-holds (is_relation_on_one (type_of s.context.signature r)) "relation" o) in
     (tt, (tt, (tt, (tt, (tt, (self-none (type_of s.context.signature r) (record { term = r; ty = type_of s.context.signature r }) R, tt))))))
 scoped-rows s h (lift_command n ty t l) = λ respects e m o q p u. (tt, optional-rule _ _)
 scoped-rows s h (parametric_command q) = λ n e f m o. (tt, tt)

@@ -4,7 +4,7 @@ use Rattle.std.specs.Prelude.{ℕ, List, [], ◌∷◌, codes}
 use Rattle.lt_definitions.specs.Types.{TypeTree, bool}
 use Rattle.lt_definitions.specs.Terms.{TermTree, abstraction, for_all}
 use Rattle.lt_definitions.specs.Samples.{tyvar, type_of_args, con, con_at}
-use Rattle.lt_transport_definitions.specs.Relations.{relation_variable, equality, bi_total, built_in_registry}
+use Rattle.lt_transport_definitions.specs.Relations.{relation_variable, equality, built_in_registry}
 use Rattle.lt_transport_definitions.specs.Expressions.{function_relator}
 use Rattle.lt_transport_definitions.specs.RuleForm.{TransferRule}
 use Rattle.lt_transport_definitions.specs.Search.{equal, Question}
@@ -19,7 +19,7 @@ abbrev pub rule_all : TransferRule
 rule_all = record {
   label = codes "all_transfer";
   variables = record { name = codes "A1"; left_name = codes "a"; right_name = codes "b" } ∷ [];
-  sides = (bi_total, 0) ∷ [];
+  sides = (codes "bi_total", 0) ∷ [];
   relation = function_relator (function_relator (relation_variable 0 (tyvar "b")) (equality bool))
       (equality bool);
   raw = con_at "all" (tyvar "a" ∷ []);
