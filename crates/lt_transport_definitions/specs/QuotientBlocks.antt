@@ -46,7 +46,6 @@ abbrev pub corr_form_of : Signature → TermTree → Option Correspondence
 corr_form_of sig t =
     option_and_then (correspondence_form (constant_name t)) (declared_type sig (constant_name t))
 
--- the type constructors in a type
 abbrev mutual
   pub constructors_in : TypeTree → List Chars
   constructors_in (type_variable a) = []
@@ -67,7 +66,6 @@ is_in_order sig raw abs =
     list_all (λ c. comes_before c (constructor_name abs) (map (λ p. p.0) sig.types))
     (constructors_in raw)
 
--- whether a type is a variable
 abbrev pub is_variable : TypeTree → Bool
 is_variable (type_variable a) = true
 is_variable (type_constructor c ts) = false
@@ -80,7 +78,6 @@ bare_test raw = wrong_where (is_variable raw) (because "BareParameter" (printed_
 abbrev pub not_quotient : String → CommandRefusal
 not_quotient part = because "NotQuotient" (codes part ∷ [])
 
--- such a test
 abbrev pub quotient_test : Bool → String → Option CommandRefusal
 quotient_test holds part = wrong_where (not holds) (not_quotient part)
 

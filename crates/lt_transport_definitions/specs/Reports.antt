@@ -50,10 +50,8 @@ end_line most files (unread e) = wrong_line files e
 end_line most files (refused_at r place) = line_about (in_file files place) (printed_refusal r)
 end_line most files accepted = []
 
--- that of `run`
 abbrev pub run_line : List File → End → List ℕ
 run_line files end = end_line theory_limit files end
 
--- that of `check`
 abbrev pub check_line : List File → End → List ℕ
 check_line files end = end_line plain_limit files end

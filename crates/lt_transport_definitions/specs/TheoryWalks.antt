@@ -79,6 +79,5 @@ RunsText limit text blocks end =
 abbrev pub ChecksText : List ℕ → List (List Item) → End → Type 0
 ChecksText text blocks end = WalksText plain_text plain_limit (new_session 0) text blocks end
 
--- the items of blocks, in order
 abbrev pub items_of_blocks : List (List Item) → List Item
 items_of_blocks blocks = flat_map (λ items. items) blocks

@@ -26,7 +26,7 @@ use Rattle.lt_texts.specs.Commands.{item_command, law_command, corr_command, rel
 use Rattle.lt_transport_definitions.specs.Commands.{CommandRefusal, because, Addition, a_lemma, Registration, transport_registered}
 use Rattle.lt_transport_definitions.specs.Rows.{BlockOutcome, Row, ◌⊳◌, with_image, with_normal_form, adds, item_test, law_test}
 use Rattle.lt_transport_definitions.specs.Parts.{registration_test, name_test, names_added}
-use Rattle.lt_transport_definitions.specs.TransportRows.{question_of, laws_asked, size_test, transported, is_implied, adds_transport, transport_row}
+use Rattle.lt_transport_definitions.specs.TransportRows.{question_of, laws_asked, size_test, transported, adds_transport, transport_row}
 use Rattle.lt_transport_definitions.specs.Blocks.{Unless, ComesOfRow}
 use Rattle.lt_transport_laws.specs.Statements.{IsRegistry}
 use Rattle.lt_transport_laws.specs.SessionStatements.{AreScopedDomains, IsScopedSession, EachOutcomeIsOne}
@@ -142,7 +142,7 @@ one-adds s items registered o p x y = x ∙ sym y
 
 one-block : (s : Session) (n : Chars) (top : Top) (t u : TermTree) → IsOne (ComesOfRow s (adds_transport n top t u))
 one-block s n top t u = one-adds s (a_lemma n (transported top u t) ∷ [])
-    (transport_registered (record { label = n; given = t; image = u; implied = is_implied top }) ∷ [])
+    (transport_registered (record { label = n; given = t; image = u; top = top }) ∷ [])
 
 one-row : (s : Session) (n : Chars) (top : Top) (t : TermTree) → IsScopedSession s → HasNoLooseNames t → IsOne (ComesOfRow s (transport_row s n top t))
 one-row s n top t h l =

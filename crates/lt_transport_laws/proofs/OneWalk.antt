@@ -7,7 +7,7 @@ use Rattle.lt_transport_definitions.specs.Rows.{BlockOutcome}
 use Rattle.lt_transport_laws.specs.SessionStatements.{SessionsAreOne}
 use Rattle.lt_transport_laws.proofs.OneTransport.{each-one}
 
-same-block : (x y : Block) → ◌≡◌ {A = BlockOutcome} (Ok x) (Ok y) → x ≡ y
+pub same-block : (x y : Block) → ◌≡◌ {A = BlockOutcome} (Ok x) (Ok y) → x ≡ y
 same-block x y e = cc
 
 pub same-refusal : (x y : CommandRefusal) → ◌≡◌ {A = BlockOutcome} (Err x) (Err y) → x ≡ y

@@ -1,5 +1,5 @@
 -- What the laws on sessions and walks say.
-use Rattle.std.specs.Prelude.{◌≡◌, ℕ, List, [], ◌∷◌, Option, Some, Ok, IsSome, map, codes}
+use Rattle.std.specs.Prelude.{◌≡◌, ◌↔◌, ℕ, ◌≤◌, length, List, [], ◌∷◌, Option, Some, Ok, IsSome, map, codes}
 use Rattle.std.specs.List.{flat_map}
 use Rattle.lt_definitions.specs.Types.{Chars, found}
 use Rattle.lt_definitions.specs.Terms.{TermTree, HasNoLooseNames}
@@ -10,11 +10,11 @@ use Rattle.lt_transport_definitions.specs.Relations.{Relator, Parametrised, Doma
 use Rattle.lt_transport_definitions.specs.Sessions.{LiftedEntry, Session, new_session, signature_of}
 use Rattle.lt_texts.specs.Texts.{Left}
 use Rattle.lt_texts.specs.Commands.{Command}
-use Rattle.lt_texts.specs.Forms.{Form}
+use Rattle.lt_texts.specs.Forms.{Form, HasPlainItems}
 use Rattle.lt_transport_definitions.specs.Commands.{Block, session_behind}
 use Rattle.lt_transport_definitions.specs.Rows.{BlockOutcome}
 use Rattle.lt_transport_definitions.specs.Blocks.{ComesOf, Gives}
-use Rattle.lt_transport_definitions.specs.TheoryWalks.{End, WalksFrom, RunsText, ChecksText, items_of_blocks}
+use Rattle.lt_transport_definitions.specs.TheoryWalks.{End, accepted, WalksFrom, plain_limit, RunsText, ChecksText, items_of_blocks}
 use Rattle.lt_transport_laws.specs.Statements.{IsRegistry}
 
 -- Named statements without loose bound names.
@@ -61,6 +61,13 @@ RunsArePlain = (limit : ℕ) (text : List ℕ) (blocks : List (List Item)) (end 
 abbrev pub ChecksArePlain : Type 0
 ChecksArePlain = (text : List ℕ) (blocks : List (List Item)) (end : End)
     → ChecksText text blocks end → IsPlainTheory (items_of_blocks blocks)
+
+-- A check accepts a text exactly where it has at most so many bytes and is a valid plain theory.
+abbrev pub ChecksAcceptPlainTheories : Type 0
+ChecksAcceptPlainTheories = (text : List ℕ) (items : List Item)
+    → ((blocks : List (List Item)) × ChecksText text blocks accepted
+    × (items ≡ items_of_blocks blocks))
+    ↔ ((length text ≤ plain_limit) × HasPlainItems text items × IsPlainTheory items)
 
 -- A block leaves the registry one that meets what the laws ask, where bool is declared without
 -- arguments.

@@ -1,5 +1,5 @@
 //! Laws of sessions and walks. Each function does nothing: its contract is the law.
-ghost use Rattle.lt_transport_laws.specs.SessionStatements.{EachOutcomeIsOne, SessionsAreOne, WalksArePlain, RunsArePlain, ChecksArePlain, RegistriesStaySound, SessionsStayInStep};
+ghost use Rattle.lt_transport_laws.specs.SessionStatements.{EachOutcomeIsOne, SessionsAreOne, WalksArePlain, RunsArePlain, ChecksArePlain, ChecksAcceptPlainTheories, RegistriesStaySound, SessionsStayInStep};
 
 /// One outcome comes of each command, transports included, where each statement of the session has
 /// its binders.
@@ -17,6 +17,11 @@ pub fn walks_are_plain()
     ensures walk { WalksArePlain }
     ensures run { RunsArePlain }
     ensures check { ChecksArePlain }
+{}
+
+/// A check accepts exactly the texts that are valid plain theories.
+pub fn checks_accept_plain_theories()
+    ensures { ChecksAcceptPlainTheories }
 {}
 
 /// A block leaves the registry one that meets what the laws ask.
