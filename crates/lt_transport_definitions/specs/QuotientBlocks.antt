@@ -15,7 +15,7 @@ use Rattle.lt_transport_definitions.specs.Answers.{wrong_where}
 use Rattle.lt_transport_definitions.specs.Forms.{constructor_name, correspondence_form}
 use Rattle.lt_transport_definitions.specs.Sessions.{Four, QuotientEntry, constant_name, constant_types_of}
 use Rattle.lt_transport_definitions.specs.Commands.{CommandRefusal, because, Addition, Registration, corr_registered, property_registered, domain_registered, rule_registered, quotient_registered}
-use Rattle.lt_transport_definitions.specs.Labels.{corr_name, quotient_label, right_total_label, right_unique_label, rel_label, domain_label}
+use Rattle.lt_transport_definitions.specs.Labels.{corr_name, right_total_label, right_unique_label, rel_label, domain_label}
 use Rattle.lt_transport_definitions.specs.Rows.{lemma_of}
 
 -- What a quotient's theorem says: the raw and the abstract type, and the four terms.
@@ -81,24 +81,12 @@ not_quotient part = because "NotQuotient" (codes part ∷ [])
 abbrev pub quotient_test : Bool → String → Option CommandRefusal
 quotient_test holds part = wrong_where (not holds) (not_quotient part)
 
--- the entry of a theorem with this label
-abbrev pub entry_of_theorem : Chars → QuotientTheorem → QuotientEntry
-entry_of_theorem l t =
+-- the entry of a quotient, with the label of its theorem
+abbrev pub entry_between : Chars → (raw abs : TypeTree) → Four → (of_typedef : Bool) → QuotientEntry
+entry_between l raw abs four of_typedef =
     record {
-      con = constructor_name t.abs;
+      con = constructor_name abs;
       label = l;
-      abs_type = t.abs;
-      raw_type = t.raw;
-      four = t.four;
-      of_typedef = false;
-    }
-
--- the entry of a quotient whose theorem the block adds
-abbrev pub new_entry : Chars → (raw abs : TypeTree) → Four → Bool → QuotientEntry
-new_entry q raw abs four of_typedef =
-    record {
-      con = q;
-      label = quotient_label q;
       abs_type = abs;
       raw_type = raw;
       four = four;

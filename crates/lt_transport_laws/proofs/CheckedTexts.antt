@@ -1,7 +1,7 @@
 -- A check accepts a text exactly where its items are a valid plain theory.
-use Rattle.std.specs.Prelude.{◌≡◌, ℕ, ◌≤◌, List, [], ◌∷◌, ◌++◌, Bool, true, false, Option, Some, None, Ok, Err, map, length}
+use Rattle.std.specs.Prelude.{◌≡◌, ℕ, List, [], ◌∷◌, ◌++◌, true, false, Option, Some, None, Ok, map}
 use Rattle.std.proofs.Common.{refl, sym, ap, ◌∙◌, subst, append-nil, append_assoc}
-use Rattle.lt_definitions.specs.Items.{Item, empty, with_item}
+use Rattle.lt_definitions.specs.Items.{Item}
 use Rattle.lt_definitions.specs.Theory.{Refusal, refusal, AreValid, IsPlainTheory}
 use Rattle.lt_texts.specs.declared.lexical.Lexed.TheVariants.{End as at_the_end}
 use Rattle.lt_texts.specs.Texts.{Left, left_of}
@@ -18,10 +18,10 @@ use Rattle.lt_grammar.proofs.RowPieces.{split_written}
 use Rattle.lt_grammar.proofs.Sentences.{join_sentences, sentences_go_on}
 use Rattle.lt_grammar.proofs.TextLaws.{header_begins, command_goes_on, end_has_commands}
 use Rattle.lt_transport_definitions.specs.Sessions.{Session, new_session}
-use Rattle.lt_transport_definitions.specs.Commands.{CommandRefusal, Addition, this_item, Block, session_behind}
+use Rattle.lt_transport_definitions.specs.Commands.{this_item, Block, session_behind}
 use Rattle.lt_transport_definitions.specs.Rows.{BlockOutcome, item_test}
 use Rattle.lt_transport_definitions.specs.Blocks.{Unless, ComesOf, AreItemsOf, Gives}
-use Rattle.lt_transport_definitions.specs.TheoryWalks.{End, accepted, Next, WalksFrom, plain_limit, ChecksText, items_of_blocks}
+use Rattle.lt_transport_definitions.specs.TheoryWalks.{accepted, WalksFrom, items_of_blocks}
 use Rattle.lt_transport_laws.specs.SessionStatements.{ChecksAcceptPlainTheories}
 use Rattle.lt_transport_laws.proofs.OneWalk.{same-block, not-both}
 use Rattle.lt_transport_laws.proofs.PlainWalks.{checks-plain}
@@ -71,7 +71,7 @@ only-item i (x ∷ y ∷ items) h = absurd h.1
 given-item : (s later : Session) (i : Item) (items : List Item) → Gives s (item_command i) items later → items ≡ i ∷ []
 given-item s later i items g = only-item i items (subst (λ (b : Block). AreItemsOf b.additions items) (block-is s i g.0 g.1) g.2)
 
-gives-item : (s : Session) (i : Item) → refusal s.context i ≡ None → Gives s (item_command i) (i ∷ []) (session_behind s (item_block i))
+pub gives-item : (s : Session) (i : Item) → refusal s.context i ≡ None → Gives s (item_command i) (i ∷ []) (session_behind s (item_block i))
 gives-item s i h = (
   item_block i,
   subst (λ (r : Option Refusal). Unless (item_test r) (λ (o : BlockOutcome). o ≡ Ok (item_block i)) (Ok (item_block i))) (sym h) refl,

@@ -1,15 +1,14 @@
 -- The sessions to which commands lead.
 use Rattle.std.specs.Prelude.{◌≡◌, List, [], ◌∷◌, fold, codes}
-use Rattle.std.proofs.Common.{refl, sym, ◌∙◌, subst}
+use Rattle.std.proofs.Common.{refl, sym, subst}
 use Rattle.lt_transport_definitions.specs.Answers.{first_wrong}
-use Rattle.lt_transport_definitions.specs.Sessions.{Session, new_session}
-use Rattle.lt_texts.specs.Commands.{Command}
+use Rattle.lt_transport_definitions.specs.Sessions.{Session}
 use Rattle.lt_transport_definitions.specs.Commands.{Addition, with_addition}
 use Rattle.lt_transport_definitions.specs.Parts.{tests_before}
 use Rattle.lt_transport_definitions.specs.Blocks.{row_of, ComesOfRow}
 use Rattle.lt_transport_laws.specs.Statements.{IsRegistry}
 use Rattle.lt_transport_laws.specs.SessionStatements.{AreScopedDomains, IsInStep}
-use Rattle.lt_transport_laws.specs.KeptStatements.{IsKeptSession, NewSessionsAreKept, SessionsAreKept, KeptSessionsAreScoped, KeptStatementsAreBoolean}
+use Rattle.lt_transport_laws.specs.KeptStatements.{NewSessionsAreKept, SessionsAreKept, KeptSessionsAreScoped, KeptStatementsAreBoolean}
 use Rattle.lt_transport_laws.proofs.BuiltIn.{built-in}
 use Rattle.lt_transport_laws.proofs.InStep.{stay-in-step}
 use Rattle.lt_transport_laws.proofs.OrderedSessions.{new-ordered, stay-ordered}

@@ -1,5 +1,5 @@
 -- What the laws on sessions and walks say.
-use Rattle.std.specs.Prelude.{◌≡◌, ◌↔◌, ℕ, ◌≤◌, length, List, [], ◌∷◌, Option, Some, Ok, IsSome, map, codes}
+use Rattle.std.specs.Prelude.{◌≡◌, ◌↔◌, ℕ, ◌≤◌, length, List, [], ◌∷◌, Some, Ok, IsSome, map, codes}
 use Rattle.std.specs.List.{flat_map}
 use Rattle.lt_definitions.specs.Types.{Chars, found}
 use Rattle.lt_definitions.specs.Terms.{TermTree, HasNoLooseNames}
@@ -7,12 +7,14 @@ use Rattle.lt_definitions.specs.Typing.{declared_arity}
 use Rattle.lt_definitions.specs.Items.{Item, Context}
 use Rattle.lt_definitions.specs.Theory.{AreValid, IsPlainTheory}
 use Rattle.lt_transport_definitions.specs.Relations.{Relator, Parametrised, DomainRule}
-use Rattle.lt_transport_definitions.specs.Sessions.{LiftedEntry, Session, new_session, signature_of}
+use Rattle.lt_transport_definitions.specs.Sessions.{LiftedEntry, Session, signature_of}
+use Rattle.lt_definitions.specs.Printing.{report, summary_lines, count_line}
 use Rattle.lt_texts.specs.Texts.{Left}
 use Rattle.lt_texts.specs.Commands.{Command}
 use Rattle.lt_texts.specs.Forms.{Form, HasPlainItems}
 use Rattle.lt_transport_definitions.specs.Commands.{Block, session_behind}
 use Rattle.lt_transport_definitions.specs.Rows.{BlockOutcome}
+use Rattle.lt_transport_definitions.specs.AlphaItems.{AreAlphaEqualItems}
 use Rattle.lt_transport_definitions.specs.Blocks.{ComesOf, Gives}
 use Rattle.lt_transport_definitions.specs.TheoryWalks.{End, accepted, WalksFrom, plain_limit, RunsText, ChecksText, items_of_blocks}
 use Rattle.lt_transport_laws.specs.Statements.{IsRegistry}
@@ -68,6 +70,13 @@ ChecksAcceptPlainTheories = (text : List ℕ) (items : List Item)
     → ((blocks : List (List Item)) × ChecksText text blocks accepted
     × (items ≡ items_of_blocks blocks))
     ↔ ((length text ≤ plain_limit) × HasPlainItems text items × IsPlainTheory items)
+
+-- Items that are one up to alpha equality print alike, with their lines and without.
+abbrev pub AlikeItemsPrintAlike : Type 0
+AlikeItemsPrintAlike =
+    (items others : List Item) → AreAlphaEqualItems items others
+    → (report items ≡ report others) × (summary_lines items ≡ summary_lines others)
+    × (count_line items ≡ count_line others)
 
 -- A block leaves the registry one that meets what the laws ask, where bool is declared without
 -- arguments.

@@ -1,5 +1,5 @@
 //! Laws of sessions and walks. Each function does nothing: its contract is the law.
-ghost use Rattle.lt_transport_laws.specs.SessionStatements.{EachOutcomeIsOne, SessionsAreOne, WalksArePlain, RunsArePlain, ChecksArePlain, ChecksAcceptPlainTheories, RegistriesStaySound, SessionsStayInStep};
+ghost use Rattle.lt_transport_laws.specs.SessionStatements.{EachOutcomeIsOne, SessionsAreOne, WalksArePlain, RunsArePlain, ChecksArePlain, ChecksAcceptPlainTheories, AlikeItemsPrintAlike, RegistriesStaySound, SessionsStayInStep};
 
 /// One outcome comes of each command, transports included, where each statement of the session has
 /// its binders.
@@ -22,6 +22,11 @@ pub fn walks_are_plain()
 /// A check accepts exactly the texts that are valid plain theories.
 pub fn checks_accept_plain_theories()
     ensures { ChecksAcceptPlainTheories }
+{}
+
+/// What a call answers up to alpha equality prints as what the walk gives.
+pub fn alike_items_print_alike()
+    ensures { AlikeItemsPrintAlike }
 {}
 
 /// A block leaves the registry one that meets what the laws ask.

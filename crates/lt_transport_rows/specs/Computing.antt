@@ -2,7 +2,7 @@
 -- for to a depth, and where it asks for an image that image is told. No definition and no contract
 -- cites this file; it is checked against the definitions nowhere but by use.
 -- Source: this project's own.
-use Rattle.std.specs.Prelude.{ℕ, zero, suc, List, [], ◌∷◌, ◌++◌, Bool, true, false, ◌&&◌, ◌||◌, if◌then◌else◌, filter, map, slice_get, Option, Some, None, Ok, Err, codes, length, nat_eq, nat_lt, unwrap_or, option_map}
+use Rattle.std.specs.Prelude.{ℕ, zero, suc, List, [], ◌∷◌, ◌++◌, Bool, true, false, ◌&&◌, ◌||◌, if◌then◌else◌, slice_get, Option, Some, None, Ok, Err, codes, length, nat_eq, nat_lt, unwrap_or, option_map}
 use Rattle.std.specs.List.{list_all}
 use Prim.Native.String.{String}
 use Rattle.lt_definitions.specs.Types.{Chars, same_name, found, TypeTree, type_variable, type_constructor, TypeTrees, type_and, bool, row, same_type, same_types, TypeMap, type_instance}
