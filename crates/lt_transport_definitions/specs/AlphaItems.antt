@@ -10,7 +10,7 @@ use Rattle.lt_definitions.specs.Theory.{AreValid}
 use Rattle.lt_texts.specs.Commands.{Command}
 use Rattle.lt_transport_definitions.specs.Sessions.{Session}
 use Rattle.lt_transport_definitions.specs.Commands.{CommandRefusal}
-use Rattle.lt_transport_definitions.specs.RefusalTexts.{printed_refusal}
+use Rattle.lt_transport_definitions.specs.Reports.{printed_refusal}
 use Rattle.lt_transport_definitions.specs.Blocks.{ComesOf, Gives}
 
 -- The rules of two lines are one, with alpha-equal terms.

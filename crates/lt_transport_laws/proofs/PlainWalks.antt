@@ -1,15 +1,15 @@
 -- The items that a walk gives are a valid plain theory.
 use Rattle.std.specs.Prelude.{◌≡◌, ℕ, List, [], ◌∷◌, ◌++◌, fold}
-use Rattle.std.proofs.Common.{refl, sym, subst}
-use Rattle.lt_definitions.specs.Items.{Item, lemma_item, Context, with_item, context_of}
+use Rattle.std.proofs.Common.{refl, sym, subst, inl, inr}
+use Rattle.lt_definitions.specs.Items.{Item, lemma_item, Context, empty, with_item, context_of}
 use Rattle.lt_definitions.specs.Theory.{AreValid}
 use Rattle.lt_transport_definitions.specs.Sessions.{Session, new_session}
 use Rattle.lt_texts.specs.Commands.{Command}
-use Rattle.lt_texts.specs.Forms.{Form, plain_text, theory_text}
+use Rattle.lt_walks.specs.Walks.{WalksText, Walks}
 use Rattle.lt_transport_definitions.specs.Commands.{Addition, this_item, a_lemma, Block, item_of, with_addition, session_behind}
 use Rattle.lt_transport_definitions.specs.Blocks.{Gives}
-use Rattle.lt_transport_definitions.specs.TheoryWalks.{End, too_long, header_wrong, unread, refused_at, accepted, WalksText, theory_limit, plain_limit, items_of_blocks}
-use Rattle.lt_transport_laws.specs.SessionStatements.{WalksArePlain, RunsArePlain, ChecksArePlain}
+use Rattle.lt_transport_definitions.specs.TheoryWalks.{items_of_blocks}
+use Rattle.lt_transport_laws.specs.SessionStatements.{WalksArePlain, RunsArePlain}
 use Rattle.lt_transport_laws.specs.OrderStatements.{AreAlphaEqualContexts}
 use Rattle.lt_transport_laws.proofs.AlphaItemLemmas.{same-statements, adds-alpha, valid-alpha, IsAlikeItemOf, AreAlikeItemsOf, items-alike}
 use Rattle.lt_transport_laws.proofs.InStep.{context-kept}
@@ -50,22 +50,15 @@ one-block s later c items more g h =
     valid-on s.context items (items_of_blocks more) g.3 v
 
 pub walks-plain : WalksArePlain
-walks-plain f s at [] end h = tt
-walks-plain f s at (items ∷ blocks) end h = one-block s h.1 h.0.command items blocks h.2 (walks-plain f h.1 h.0.rest blocks end h.3)
+walks-plain limit s at [] end h = tt
+walks-plain limit s at (items ∷ blocks) end (c, from, lines, to, behind, p, later, g, w) =
+    one-block s later c items blocks g (walks-plain limit later behind blocks end w)
 
 no-blocks : (ctx : Context) (blocks : List (List Item)) → blocks ≡ [] → AreValid ctx (items_of_blocks blocks)
 no-blocks ctx blocks e = subst (λ (bs : List (List Item)). AreValid ctx (items_of_blocks bs)) (sym e) tt
 
-text-plain : (f : Form) (most : ℕ) (s : Session) (text : List ℕ) (blocks : List (List Item)) (end : End) → WalksText f most s text blocks end
-    → AreValid s.context (items_of_blocks blocks)
-text-plain f most s text blocks too_long h = no-blocks s.context blocks h.1
-text-plain f most s text blocks (header_wrong e) h = no-blocks s.context blocks h.2
-text-plain f most s text blocks (unread e) h = walks-plain f s h.1 blocks (unread e) h.3
-text-plain f most s text blocks (refused_at r place) h = walks-plain f s h.1 blocks (refused_at r place) h.3
-text-plain f most s text blocks accepted h = walks-plain f s h.1 blocks accepted h.3
-
 pub runs-plain : RunsArePlain
-runs-plain limit text blocks end h = text-plain theory_text theory_limit (new_session limit) text blocks end h
-
-pub checks-plain : ChecksArePlain
-checks-plain text blocks end h = text-plain plain_text plain_limit (new_session 0) text blocks end h
+unfolding Walks WalksText
+runs-plain limit text blocks end (inl h) = no-blocks empty blocks h.1
+runs-plain limit text blocks end (inr (h, inl k)) = no-blocks empty blocks k.2
+runs-plain limit text blocks end (inr (h, inr k)) = walks-plain limit (new_session limit) k.0 blocks end k.2

@@ -1,6 +1,6 @@
 -- A run over a text whose second command is refused, from its bytes.
 use Rattle.std.specs.Prelude.{◌≡◌, ℕ, ◌≤◌, List, [], ◌∷◌, ◌++◌, true, false, Some, codes, length}
-use Rattle.std.proofs.Common.{refl, subst, sym, arith}
+use Rattle.std.proofs.Common.{refl, subst, sym, inl, inr, arith}
 use Rattle.std.specs.Str.Lossy.{utf8_valid_len}
 use Rattle.std.specs.Str.{chars, is_utf8}
 use Rattle.lt_definitions.specs.Characters.{behind_gap, number_of}
@@ -19,10 +19,9 @@ use Rattle.lt_texts.proofs.GapLemmas.{gap_exact}
 use Rattle.lt_grammar.proofs.Cuts.{Cuts, nothing_cut, space-stops, Stopped}
 use Rattle.lt_grammar.proofs.PieceCuts.{is_ascii_name, ascii_name, semicolon_ends}
 use Rattle.lt_grammar.proofs.WrongExamples.{at, read-cuts, put}
-use Rattle.lt_transport_definitions.specs.Sessions.{new_session}
+use Rattle.lt_walks.specs.Walks.{refused, WalksText, Walks}
 use Rattle.lt_transport_definitions.specs.Commands.{as_item}
-use Rattle.lt_transport_definitions.specs.TheoryWalks.{refused_at, theory_limit, RunsText}
-use Rattle.lt_transport_laws.proofs.CheckedTexts.{gives-item}
+use Rattle.lt_transport_definitions.specs.TheoryWalks.{theory_limit, RunsText}
 
 -- a word, a number and a semicolon behind a gap
 named : (text name more : List ℕ) (ws : List Lexeme) (rest : List ℕ) → behind_gap false text ≡ name ++ more → is_ascii_name name ≡ true → Stopped more → Cuts more ws rest → Cuts text (a_name name ∷ ws) rest
@@ -110,15 +109,20 @@ law-placed = ([], tt, refl, at run-text (codes "\nlaw w l;"), ([], refl, refl), 
 is-short : length run-text ≤ theory_limit
 is-short = let e : length run-text ≡ 28 = refl in omega arith
 
-pub runs-to-refusal : RunsText 5 run-text ((type_item (codes "n") 0 ∷ []) ∷ []) (refused_at (as_item (unknown_statement (codes "l"))) 20)
-runs-to-refusal = (
-  is-short,
+pub runs-to-refusal : RunsText 5 run-text ((type_item (codes "n") 0 ∷ []) ∷ []) (refused (as_item (unknown_statement (codes "l"))) 20)
+unfolding Walks WalksText
+runs-to-refusal = inr (is-short, inr (
   at run-text (codes "\ntype n 0;\nlaw w l;"),
   header-stands,
   (
-    record { command = item_command (type_item (codes "n") 0); place = 10; lines = []; end = 19; rest = at run-text (codes "\nlaw w l;"); stands = type-placed },
+    item_command (type_item (codes "n") 0),
+    10,
+    [],
+    19,
+    at run-text (codes "\nlaw w l;"),
+    type-placed,
     _,
-    gives-item (new_session 5) (type_item (codes "n") 0) refl,
-    (record { command = law_command (codes "w") (codes "l"); place = 20; lines = []; end = 28; rest = at run-text []; stands = law-placed }, refl, refl),
+    (_, refl, (refl, tt), (refl, tt), refl),
+    inr (inr (law_command (codes "w") (codes "l"), 20, [], 28, at run-text [], law-placed, _, refl, refl)),
   ),
-)
+))

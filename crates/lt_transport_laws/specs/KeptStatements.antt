@@ -8,9 +8,10 @@ use Rattle.lt_definitions.specs.Items.{Item}
 use Rattle.lt_transport_definitions.specs.Sessions.{Session, new_session, signature_of}
 use Rattle.lt_texts.specs.Texts.{Left}
 use Rattle.lt_texts.specs.Commands.{Command}
-use Rattle.lt_texts.specs.Forms.{Form}
+use Rattle.lt_walks.specs.Walks.{End, WalksOn}
+use Rattle.lt_transport_definitions.specs.Commands.{CommandRefusal}
 use Rattle.lt_transport_definitions.specs.Blocks.{Gives}
-use Rattle.lt_transport_definitions.specs.TheoryWalks.{End, WalksFrom, RunsText, ChecksText}
+use Rattle.lt_transport_definitions.specs.TheoryWalks.{theory_commands, RunsText}
 use Rattle.lt_transport_laws.specs.Statements.{IsRegistry}
 use Rattle.lt_transport_laws.specs.SessionStatements.{AreScopedDomains, IsScopedSession, IsInStep}
 use Rattle.lt_transport_laws.specs.OrderStatements.{IsOrderedSession}
@@ -44,17 +45,13 @@ KeptStatementsAreBoolean = (s : Session) (l : Chars) (p : TermTree) → IsKeptSe
 -- A walk from such a session has one end.
 abbrev pub WalksAreOne : Type 0
 WalksAreOne =
-    (f : Form) (s : Session) (at : Left) (blocks others : List (List Item)) (end other : End)
-    → IsKeptSession s → WalksFrom f s at blocks end → WalksFrom f s at others other → end ≡ other
+    (limit : ℕ) (s : Session) (at : Left) (blocks others : List (List Item))
+    (end other : End CommandRefusal)
+    → IsKeptSession s → WalksOn (theory_commands limit) s at blocks end
+    → WalksOn (theory_commands limit) s at others other → end ≡ other
 
 -- A run over a text has one end.
 abbrev pub RunsHaveOneEnd : Type 0
 RunsHaveOneEnd =
-    (limit : ℕ) (text : List ℕ) (blocks others : List (List Item)) (end other : End)
+    (limit : ℕ) (text : List ℕ) (blocks others : List (List Item)) (end other : End CommandRefusal)
     → RunsText limit text blocks end → RunsText limit text others other → end ≡ other
-
--- So has a check.
-abbrev pub ChecksHaveOneEnd : Type 0
-ChecksHaveOneEnd =
-    (text : List ℕ) (blocks others : List (List Item)) (end other : End)
-    → ChecksText text blocks end → ChecksText text others other → end ≡ other

@@ -1,5 +1,5 @@
 -- What the laws on sessions and walks say.
-use Rattle.std.specs.Prelude.{◌≡◌, ◌↔◌, ℕ, ◌≤◌, length, List, [], ◌∷◌, Some, Ok, IsSome, map, codes}
+use Rattle.std.specs.Prelude.{◌≡◌, ℕ, List, [], ◌∷◌, Some, Ok, IsSome, map, codes}
 use Rattle.std.specs.List.{flat_map}
 use Rattle.lt_definitions.specs.Types.{Chars, found}
 use Rattle.lt_definitions.specs.Terms.{TermTree, HasNoLooseNames}
@@ -11,12 +11,12 @@ use Rattle.lt_transport_definitions.specs.Sessions.{LiftedEntry, Session, signat
 use Rattle.lt_definitions.specs.Printing.{report, summary_lines, count_line}
 use Rattle.lt_texts.specs.Texts.{Left}
 use Rattle.lt_texts.specs.Commands.{Command}
-use Rattle.lt_texts.specs.Forms.{Form, HasPlainItems}
-use Rattle.lt_transport_definitions.specs.Commands.{Block, session_behind}
+use Rattle.lt_walks.specs.Walks.{End, WalksOn}
+use Rattle.lt_transport_definitions.specs.Commands.{CommandRefusal, Block, session_behind}
 use Rattle.lt_transport_definitions.specs.Rows.{BlockOutcome}
 use Rattle.lt_transport_definitions.specs.AlphaItems.{AreAlphaEqualItems}
 use Rattle.lt_transport_definitions.specs.Blocks.{ComesOf, Gives}
-use Rattle.lt_transport_definitions.specs.TheoryWalks.{End, accepted, WalksFrom, plain_limit, RunsText, ChecksText, items_of_blocks}
+use Rattle.lt_transport_definitions.specs.TheoryWalks.{theory_commands, RunsText, items_of_blocks}
 use Rattle.lt_transport_laws.specs.Statements.{IsRegistry}
 
 -- Named statements without loose bound names.
@@ -51,25 +51,14 @@ SessionsAreOne =
 -- The items that a walk gives are valid one after another, over those before the walk.
 abbrev pub WalksArePlain : Type 0
 WalksArePlain =
-    (f : Form) (s : Session) (at : Left) (blocks : List (List Item)) (end : End)
-    → WalksFrom f s at blocks end → AreValid s.context (items_of_blocks blocks)
+    (limit : ℕ) (s : Session) (at : Left) (blocks : List (List Item)) (end : End CommandRefusal)
+    → WalksOn (theory_commands limit) s at blocks end → AreValid s.context (items_of_blocks blocks)
 
 -- The items of a run are a valid plain theory.
 abbrev pub RunsArePlain : Type 0
-RunsArePlain = (limit : ℕ) (text : List ℕ) (blocks : List (List Item)) (end : End)
+RunsArePlain =
+    (limit : ℕ) (text : List ℕ) (blocks : List (List Item)) (end : End CommandRefusal)
     → RunsText limit text blocks end → IsPlainTheory (items_of_blocks blocks)
-
--- So are those of a check.
-abbrev pub ChecksArePlain : Type 0
-ChecksArePlain = (text : List ℕ) (blocks : List (List Item)) (end : End)
-    → ChecksText text blocks end → IsPlainTheory (items_of_blocks blocks)
-
--- A check accepts a text exactly where it has at most so many bytes and is a valid plain theory.
-abbrev pub ChecksAcceptPlainTheories : Type 0
-ChecksAcceptPlainTheories = (text : List ℕ) (items : List Item)
-    → ((blocks : List (List Item)) × ChecksText text blocks accepted
-    × (items ≡ items_of_blocks blocks))
-    ↔ ((length text ≤ plain_limit) × HasPlainItems text items × IsPlainTheory items)
 
 -- Items that are one up to alpha equality print alike, with their lines and without.
 abbrev pub AlikeItemsPrintAlike : Type 0

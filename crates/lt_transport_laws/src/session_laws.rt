@@ -1,5 +1,5 @@
 //! Laws of sessions and walks. Each function does nothing: its contract is the law.
-ghost use Rattle.lt_transport_laws.specs.SessionStatements.{EachOutcomeIsOne, SessionsAreOne, WalksArePlain, RunsArePlain, ChecksArePlain, ChecksAcceptPlainTheories, AlikeItemsPrintAlike, RegistriesStaySound, SessionsStayInStep};
+ghost use Rattle.lt_transport_laws.specs.SessionStatements.{EachOutcomeIsOne, SessionsAreOne, WalksArePlain, RunsArePlain, AlikeItemsPrintAlike, RegistriesStaySound, SessionsStayInStep};
 
 /// One outcome comes of each command, transports included, where each statement of the session has
 /// its binders.
@@ -12,16 +12,10 @@ pub fn sessions_are_one()
     ensures { SessionsAreOne }
 {}
 
-/// The items that a walk gives are valid, and those of a run or a check are a valid plain theory.
+/// The items that a walk gives are valid, and those of a run are a valid plain theory.
 pub fn walks_are_plain()
     ensures walk { WalksArePlain }
     ensures run { RunsArePlain }
-    ensures check { ChecksArePlain }
-{}
-
-/// A check accepts exactly the texts that are valid plain theories.
-pub fn checks_accept_plain_theories()
-    ensures { ChecksAcceptPlainTheories }
 {}
 
 /// What a call answers up to alpha equality prints as what the walk gives.

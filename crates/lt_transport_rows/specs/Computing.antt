@@ -24,7 +24,7 @@ use Rattle.lt_texts.specs.Commands.{Command}
 use Rattle.lt_transport_definitions.specs.Commands.{because, Addition, item_of, session_behind}
 use Rattle.lt_transport_definitions.specs.Rows.{BlockOutcome, Row, ◌⊳◌, with_value, with_form, with_quotient, with_image, with_normal_form, adds}
 use Rattle.lt_transport_definitions.specs.Parts.{tests_before}
-use Rattle.lt_transport_definitions.specs.RefusalTexts.{printed_refusal}
+use Rattle.lt_transport_definitions.specs.Reports.{printed_refusal}
 use Rattle.lt_transport_definitions.specs.Blocks.{no_quotient, row_of}
 
 -- quotients of arguments
