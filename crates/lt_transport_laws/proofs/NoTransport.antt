@@ -63,7 +63,7 @@ dead (chosen_rule c ts i rule) v e (Some j) choices s b f n k h =
     let x : c ≡ codes "q" = cc in
     let y : ts ≡ [] = cc in
     let b' : slice_get (rule_pq ∷ []) i ≡ Some rule =
-    (λ t. slice_get (only-candidate (~ t)) i) ∙ (sym (λ t. slice_get (candidates question_q.rules (x t) (y t)) i) ∙ b) in
+    sym (λ t. slice_get (only-candidate t) i) ∙ (sym (λ t. slice_get (candidates question_q.rules (x t) (y t)) i) ∙ b) in
     let k' : e ≡ relation_instance question_q.registry (match_of rule []) v rule.relation =
     k ∙ (λ t. relation_instance question_q.registry (match_of rule (y t)) v rule.relation) in
     dead-rule i rule v e j b' k' h
