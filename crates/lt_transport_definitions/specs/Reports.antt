@@ -6,7 +6,7 @@ use Rattle.lt_definitions.specs.Types.{Chars}
 use Rattle.lt_definitions.specs.Items.{Item}
 use Rattle.lt_definitions.specs.Printing.{words, report}
 use Rattle.lt_texts.specs.Files.{File}
-use Rattle.lt_walks.specs.Walks.{End, accepted, too_long, wrong_header, unread, refused}
+use Rattle.lt_walks.specs.Walks.{End, too_long, wrong_header}
 use Rattle.lt_walks.specs.RefusalTexts.{printed_refusal as printed_item_refusal}
 use Rattle.lt_walks.specs.Outputs.{summary_of, end_line}
 use Rattle.lt_transport_definitions.specs.Commands.{CommandRefusal, as_item, in_words}

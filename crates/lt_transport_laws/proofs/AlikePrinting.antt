@@ -7,7 +7,7 @@ use Rattle.lt_definitions.specs.Types.{Chars}
 use Rattle.lt_definitions.specs.Terms.{TermTree}
 use Rattle.lt_definitions.specs.Rules.{Rule, by_assume, by_weaken, by_refl, by_sym, by_trans, by_cong, by_abs, by_beta, by_eta, by_eqmp, by_impI, by_mp, by_allI, by_allE, by_iff, by_inst, by_tinst, by_select, by_ccontr, by_thm, rule_map, terms_of, AreAlphaEqual}
 use Rattle.lt_definitions.specs.Items.{Item, type_item, const_item, axiom_item, def_item, typedef_item, lemma_item}
-use Rattle.lt_definitions.specs.Printing.{printed_type, printed_term, words, type_variable_name, printed_params, printed_rule, printed_head, printed_lines, printed_item, report, summary_line, summary_lines, is_axiom, is_lemma, count_line}
+use Rattle.lt_definitions.specs.Printing.{printed_type, printed_term, words, type_variable_name, printed_params, printed_rule, printed_head, printed_lines, printed_item, summary_lines, is_axiom, is_lemma}
 use Rattle.lt_nameless.proofs.PrintingLemmas.{alpha_prints_alike}
 use Rattle.lt_transport_definitions.specs.AlphaItems.{IsAlphaEqualRule, AreAlphaEqualRules, IsAlphaEqualItem, AreAlphaEqualItems}
 use Rattle.lt_transport_laws.specs.SessionStatements.{AlikeItemsPrintAlike}

@@ -1,6 +1,6 @@
 -- A search that finds that no choice list has a solution.
-use Rattle.std.specs.Prelude.{◌≡◌, ◌⊎◌, ℕ, zero, suc, List, [], ◌∷◌, ◌++◌, Option, Some, None, length, slice_get, IsSome, Contains, codes}
-use Rattle.std.proofs.Common.{refl, subst, sym, ap, ◌∙◌, inl, inr, arith}
+use Rattle.std.specs.Prelude.{◌≡◌, ℕ, zero, suc, List, [], ◌∷◌, ◌++◌, Option, Some, None, length, slice_get, IsSome, Contains, codes}
+use Rattle.std.proofs.Common.{refl, subst, sym, ◌∙◌, inl, inr, arith}
 use Rattle.lt_definitions.specs.Types.{bool}
 use Rattle.lt_definitions.specs.Samples.{con}
 use Rattle.lt_transport_definitions.specs.Relations.{Relation, equality}

@@ -1,5 +1,5 @@
 -- The items that a walk gives are a valid plain theory.
-use Rattle.std.specs.Prelude.{◌≡◌, ℕ, List, [], ◌∷◌, ◌++◌, fold}
+use Rattle.std.specs.Prelude.{◌≡◌, List, [], ◌∷◌, ◌++◌, fold}
 use Rattle.std.proofs.Common.{refl, sym, subst, inl, inr}
 use Rattle.lt_definitions.specs.Items.{Item, lemma_item, Context, empty, with_item, context_of}
 use Rattle.lt_definitions.specs.Theory.{AreValid}

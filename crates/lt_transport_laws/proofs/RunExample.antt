@@ -1,6 +1,6 @@
 -- A run over a text whose second command is refused, from its bytes.
 use Rattle.std.specs.Prelude.{◌≡◌, ℕ, ◌≤◌, List, [], ◌∷◌, ◌++◌, true, false, Some, codes, length}
-use Rattle.std.proofs.Common.{refl, subst, sym, inl, inr, arith}
+use Rattle.std.proofs.Common.{refl, subst, sym, inr, arith}
 use Rattle.std.specs.Str.Lossy.{utf8_valid_len}
 use Rattle.std.specs.Str.{chars, is_utf8}
 use Rattle.lt_definitions.specs.Characters.{behind_gap, number_of}
@@ -111,18 +111,21 @@ is-short = let e : length run-text ≡ 28 = refl in omega arith
 
 pub runs-to-refusal : RunsText 5 run-text ((type_item (codes "n") 0 ∷ []) ∷ []) (refused (as_item (unknown_statement (codes "l"))) 20)
 unfolding Walks WalksText
-runs-to-refusal = inr (is-short, inr (
-  at run-text (codes "\ntype n 0;\nlaw w l;"),
-  header-stands,
-  (
-    item_command (type_item (codes "n") 0),
-    10,
-    [],
-    19,
-    at run-text (codes "\nlaw w l;"),
-    type-placed,
-    _,
-    (_, refl, (refl, tt), (refl, tt), refl),
-    inr (inr (law_command (codes "w") (codes "l"), 20, [], 28, at run-text [], law-placed, _, refl, refl)),
+runs-to-refusal = inr (
+  is-short,
+  inr (
+    at run-text (codes "\ntype n 0;\nlaw w l;"),
+    header-stands,
+    (
+      item_command (type_item (codes "n") 0),
+      10,
+      [],
+      19,
+      at run-text (codes "\nlaw w l;"),
+      type-placed,
+      _,
+      (_, refl, (refl, tt), (refl, tt), refl),
+      inr (inr (law_command (codes "w") (codes "l"), 20, [], 28, at run-text [], law-placed, _, refl, refl)),
+    ),
   ),
-))
+)
