@@ -70,8 +70,8 @@ abbrev pub nat_four : Four
 nat_four = identity_four (box nat)
 
 -- types and theorems: two that can be lifted, one at a type, one whose correspondence is no
--- constant, one whose relation has a type variable of its own, one whose raw type is declared later,
--- and one whose raw type is a variable; and statements of rules over them
+-- constant, one whose relation has a type variable of its own, one whose raw type is declared
+-- later, and one whose raw type is a variable; and statements of rules over them
 abbrev pub box_items : List Item
 box_items = type_item (codes "cup") 1 ∷ type_item (codes "box") 1 ∷ type_item (codes "late") 1
     ∷ type_item (codes "arr") 1
@@ -141,7 +141,12 @@ abbrev pub over_correspondence : Session
 over_correspondence = fold with_registration over_boxes
     (corr_registered box_correspondence
     ∷ property_registered
-    (record { label = codes "T_right"; property = codes "right_total"; head = codes "T"; premises = [] })
+    (record {
+      label = codes "T_right";
+      property = codes "right_total";
+      head = codes "T";
+      premises = [];
+    })
     ∷ domain_registered (record {
       label = codes "T_domain";
       head = codes "T";

@@ -1,19 +1,18 @@
 -- Sessions over quotients, forms and rules, of which the examples of refusals speak.
 -- Source: this project's own.
-use Rattle.std.specs.Prelude.{List, [], ◌∷◌, ◌++◌, if◌then◌else◌, map, codes, false, unwrap_or}
-use Rattle.lt_definitions.specs.Samples.{nat, tyvar, con, con_at, app, typedef_t}
-use Rattle.lt_definitions.specs.Types.{Chars, same_name, TypeTree, bool}
+use Rattle.std.specs.Prelude.{List, [], ◌∷◌, ◌++◌, codes, false}
+use Rattle.lt_definitions.specs.Samples.{nat, tyvar, con}
+use Rattle.lt_definitions.specs.Types.{Chars, TypeTree, bool}
 use Rattle.lt_definitions.specs.Terms.{falsity}
 use Rattle.lt_definitions.specs.Items.{Item, type_item, const_item, axiom_item, empty, context_of}
 use Rattle.lt_definitions.specs.Typing.{Signature}
 use Rattle.lt_transport_definitions.specs.Notation.{WithType, ◌⇒◌, ◌~◌}
-use Rattle.lt_transport_definitions.specs.Constants.{constant_types, table_type}
 use Rattle.lt_transport_definitions.specs.Relations.{Correspondence, Parametrised, Registry}
 use Rattle.lt_transport_definitions.specs.RelatorForm.{equality_statement, quotient_statement, composition_statement, relator_type, mapping_type}
 use Rattle.lt_transport_definitions.specs.Search.{equal}
 use Rattle.lt_transport_definitions.specs.Reduction.{as_printed}
-use Rattle.lt_transport_definitions.specs.LawTexts.{law_statement, laws_of_lifting, laws_of_lift, laws_of_parametric}
-use Rattle.lt_transport_definitions.specs.Sessions.{QuotientEntry, Session, new_session}
+use Rattle.lt_transport_definitions.specs.LawTexts.{laws_of_lifting, laws_of_lift}
+use Rattle.lt_transport_definitions.specs.Sessions.{QuotientEntry, Session}
 use Rattle.lt_transport_definitions.specs.QuotientTerms.{four_at}
 use Rattle.lt_transport_definitions.specs.Commands.{relator_registered, Block, with_registration, session_behind}
 use Rattle.lt_transport_definitions.specs.Rows.{Row, adds}
@@ -22,9 +21,9 @@ use Rattle.lt_transport_definitions.specs.QuotientBlocks.{self_related, tail_blo
 use Rattle.lt_transport_definitions.specs.QuotientRows.{typedef_entry, adds_typedef_quotient}
 use Rattle.lt_transport_definitions.specs.LiftRows.{adds_lifted}
 use Rattle.lt_transport_definitions.specs.ParamRows.{form_body, adds_form}
-use Rattle.lt_transport_definitions.specs.Samples.{session_over, behind_items, with_laws, over_typedef_t, list_relator}
+use Rattle.lt_transport_definitions.specs.Samples.{session_over, with_laws, over_typedef_t, list_relator}
 pub use Rattle.lt_transport_definitions.specs.BoxSamples.{cup, box, box_theory, over_boxes, lawless_boxes, over_correspondence}
-use Rattle.lt_transport_definitions.specs.BoxSamples.{given_constant, arr, declares, four_declared, theorem, cup_four, arr_four, box_correspondence}
+use Rattle.lt_transport_definitions.specs.BoxSamples.{given_constant, arr, declares, four_declared, cup_four, arr_four, box_correspondence}
 
 -- the block with which a row ends, or else nothing
 abbrev pub block_in : Row → Block
@@ -155,52 +154,3 @@ parametrised_signature =
 -- and T registered
 abbrev pub parametrised_registry : Registry
 parametrised_registry = over_correspondence.registry
-
--- relcompp's own type
-abbrev pub relcompp_type : TypeTree
-relcompp_type = table_type (codes "relcompp")
-
--- another type, over which the law that eq is its left unit has its type too
-abbrev pub other_relcompp_type : TypeTree
-other_relcompp_type = (tyvar "a" ~ tyvar "b") ⇒ (tyvar "a" ~ tyvar "c") ⇒ (tyvar "b" ~ tyvar "c")
-
--- the laws that lifting and parametric ask for
-abbrev pub form_laws : List Chars
-form_laws = laws_of_lifting ++ laws_of_parametric
-
--- the laws' constants, of which one has this type
-abbrev pub constants_but : Chars → TypeTree → List Item
-constants_but c ty = map (λ p. const_item p.0 (if same_name p.0 c then ty else p.1)) constant_types
-
--- the laws' constants, with relcompp of a type; these laws; and the theorem of arr
-abbrev pub relcompp_items : TypeTree → List Item
-relcompp_items ty = constants_but (codes "relcompp") ty
-    ++ (map (λ w. axiom_item w (unwrap_or (law_statement w) falsity)) form_laws
-    ++ type_item (codes "nat") 0 ∷ type_item (codes "arr") 1
-    ∷ four_declared (nat ⇒ tyvar "a") (arr (tyvar "a")) "Ra" "Aa" "Ba" "Ta"
-    ++ axiom_item (codes "Q_arr") (theorem arr_four) ∷ [])
-
--- the session with these, these laws, and the quotient of arr
-abbrev pub over_relcompp : TypeTree → Session
-over_relcompp ty = session_behind
-    (with_laws (behind_items (new_session 100) (relcompp_items ty)) form_laws)
-    (lifting_block arr_entry arr_correspondence)
-
--- lists whose relator has the name of the function relator
-abbrev pub rel_fun_items : List Item
-rel_fun_items = type_item (codes "list") 1
-    ∷ constants_but (codes "rel_fun") list_relator_type ++ list_statements (codes "rel_fun")
-
--- the session over these
-abbrev pub over_other_rel_fun : Session
-over_other_rel_fun = behind_items (new_session 100) rel_fun_items
-
--- a typedef whose raw type is a variable
-abbrev pub bare_items : List Item
-bare_items = const_item (codes "P") (tyvar "a" ⇒ bool) ∷ const_item (codes "z") (tyvar "a")
-    ∷ axiom_item (codes "Pz") (app (con_at "P" (tyvar "a" ∷ [])) (con_at "z" (tyvar "a" ∷ [])))
-    ∷ typedef_t (codes "a" ∷ []) (con_at "P" (tyvar "a" ∷ [])) ∷ []
-
--- the session over these
-abbrev pub over_bare_typedef : Session
-over_bare_typedef = session_over bare_items

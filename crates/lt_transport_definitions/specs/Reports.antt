@@ -17,8 +17,8 @@ abbrev pub printed_refusal : CommandRefusal → Chars
 printed_refusal (as_item r) = printed_item_refusal r
 printed_refusal (in_words ws) = words ws
 
--- The report: the header and the items as commands. Where the header is wrong, or the text too long,
--- it is empty.
+-- The report: the header and the items as commands. Where the header is wrong, or the text too
+-- long, it is empty.
 abbrev pub report_of : {R : Type 0} → List Item → End R → Chars
 report_of items too_long = []
 report_of items (wrong_header e) = []

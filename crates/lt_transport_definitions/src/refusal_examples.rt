@@ -11,7 +11,8 @@ ghost use Rattle.lt_transport_definitions.specs.ParamRows.{not_parametric};
 ghost use Rattle.lt_transport_definitions.specs.QuotientBlocks.{not_quotient};
 ghost use Rattle.lt_transport_definitions.specs.Blocks.{no_quotient, ComesOf};
 ghost use Rattle.lt_transport_definitions.specs.Samples.{over_typedef_t, without_laws, list_relator, relator_by, AddsLines};
-ghost use Rattle.lt_transport_definitions.specs.RefusalSamples.{over_boxes, lawless_boxes, over_few_laws, over_correspondence, over_quotient_of_box, over_transport, over_form, over_quotient_of_t, over_lists, over_relator, relcompp_type, other_relcompp_type, over_relcompp, over_other_rel_fun, over_bare_typedef, cup, box};
+ghost use Rattle.lt_transport_definitions.specs.RefusalSamples.{over_boxes, lawless_boxes, over_few_laws, over_correspondence, over_quotient_of_box, over_transport, over_form, over_quotient_of_t, over_lists, over_relator, cup, box};
+ghost use Rattle.lt_transport_definitions.specs.OtherSamples.{relcompp_type, other_relcompp_type, over_relcompp, over_other_rel_fun, over_bare_typedef};
 
 /// The first law that a command asks for and that isn't registered.
 pub fn missing_laws()

@@ -1,6 +1,7 @@
 //! The sessions of which the examples speak come of texts.
 ghost use Rattle.lt_transport_definitions.specs.Samples.{IsReached, over_typedef_t, without_laws, over_related};
-ghost use Rattle.lt_transport_definitions.specs.RefusalSamples.{over_boxes, lawless_boxes, over_correspondence, over_few_laws, over_quotient_of_box, over_quotient_of_arr, over_form, over_quotient_of_t, over_lists, over_relator, relcompp_type, other_relcompp_type, over_relcompp, over_other_rel_fun, over_bare_typedef};
+ghost use Rattle.lt_transport_definitions.specs.RefusalSamples.{over_boxes, lawless_boxes, over_correspondence, over_few_laws, over_quotient_of_box, over_quotient_of_arr, over_form, over_quotient_of_t, over_lists, over_relator};
+ghost use Rattle.lt_transport_definitions.specs.OtherSamples.{relcompp_type, other_relcompp_type, over_relcompp, over_other_rel_fun, over_bare_typedef};
 
 /// Over the laws, a typedef, and two related types.
 pub fn small_sessions_are_reached()

@@ -3,7 +3,8 @@ use Rattle.std.specs.Prelude.{[], ◌∷◌}
 use Rattle.std.specs.Fmt.{digits}
 use Rattle.lt_transport_definitions.specs.Sessions.{new_session}
 use Rattle.lt_transport_definitions.specs.Samples.{list_relator, relator_by}
-use Rattle.lt_transport_definitions.specs.RefusalSamples.{list_items, over_lists, over_relator, rel_fun_items}
+use Rattle.lt_transport_definitions.specs.RefusalSamples.{list_items, over_lists, over_relator}
+use Rattle.lt_transport_definitions.specs.OtherSamples.{rel_fun_items}
 use Rattle.lt_transport_definitions.proofs.Reached.{new-reached, on, on-items, over-reached}
 use Rattle.lt_transport_definitions.proofs.sample_examples.list_sessions_are_reached.Goals as goal
 

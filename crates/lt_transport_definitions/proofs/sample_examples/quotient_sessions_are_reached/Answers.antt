@@ -8,7 +8,8 @@ use Rattle.lt_transport_definitions.specs.Sessions.{new_session}
 use Rattle.lt_transport_definitions.specs.Quotients.{registered_quotient}
 use Rattle.lt_texts.specs.Commands.{Command, lifting_command, lifting_typedef_command, lift_command, corr_command, property_command, domain_command, parametric_command, law_command}
 use Rattle.lt_transport_definitions.specs.Samples.{LeadTo, IsReached, behind_items, behind_laws, over_typedef_t, typedef_items}
-use Rattle.lt_transport_definitions.specs.RefusalSamples.{box, box_theory, box_entry, over_boxes, lawless_boxes, over_correspondence, over_few_laws, over_quotient_of_box, over_quotient_of_arr, over_form, over_quotient_of_t, relcompp_type, other_relcompp_type, form_laws, relcompp_items, over_relcompp}
+use Rattle.lt_transport_definitions.specs.RefusalSamples.{box, box_theory, box_entry, over_boxes, lawless_boxes, over_correspondence, over_few_laws, over_quotient_of_box, over_quotient_of_arr, over_form, over_quotient_of_t}
+use Rattle.lt_transport_definitions.specs.OtherSamples.{relcompp_type, other_relcompp_type, form_laws, relcompp_items, over_relcompp}
 use Rattle.lt_transport_definitions.proofs.Reached.{new-reached, behind-reached, on, on-items, over-reached}
 use Rattle.lt_transport_definitions.proofs.sample_examples.quotient_sessions_are_reached.Goals as goal
 

@@ -2,7 +2,7 @@ use Rattle.std.proofs.Common.{refl}
 use Rattle.std.specs.Prelude.{[], ◌∷◌, codes}
 use Rattle.std.specs.Fmt.{digits}
 use Rattle.lt_texts.specs.Commands.{corr_command, rule_command}
-use Rattle.lt_transport_definitions.specs.RefusalSamples.{bare_items}
+use Rattle.lt_transport_definitions.specs.OtherSamples.{bare_items}
 use Rattle.lt_transport_definitions.specs.Samples.{behind_laws, session_over, typedef_items, related_items, over_related}
 use Rattle.lt_transport_definitions.proofs.Reached.{behind-reached, on, on-items, over-reached}
 use Rattle.lt_transport_definitions.proofs.sample_examples.small_sessions_are_reached.Goals as goal
