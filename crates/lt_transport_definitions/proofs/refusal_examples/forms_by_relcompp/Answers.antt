@@ -1,6 +1,6 @@
 use Rattle.std.proofs.Common.{refl}
 use Rattle.std.specs.Fmt.{digits}
-use Rattle.lt_transport_definitions.proofs.form_examples.laws_of_other_types.Goals as goal
+use Rattle.lt_transport_definitions.proofs.refusal_examples.forms_by_relcompp.Goals as goal
 
 pub returns-clause-typed : goal.returns-clause-typed
 unfolding digits
