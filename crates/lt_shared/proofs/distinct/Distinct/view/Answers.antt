@@ -3,7 +3,7 @@ use Rattle.std.proofs.lemmas.Grind.{common_steps}
 use Rattle.std.proofs.lemmas.Option.{gets}
 use Rattle.lt_store.specs.Views.{node_of}
 use Rattle.lt_store.proofs.TreeLemmas.{stands_at}
-use Rattle.lt_shared.proofs.shared_store.SharedStoreTermStore.view.Goals as goal
+use Rattle.lt_shared.proofs.distinct.Distinct.view.Goals as goal
 
 pub returns-clause-stands : goal.returns-clause-stands
 returns-clause-stands c =

@@ -3,7 +3,7 @@ use Rattle.std.proofs.lemmas.Bool.Decides.{nat_tests}
 use Rattle.std.proofs.lemmas.Grind.{common_steps}
 use Rattle.lt_store.specs.Trees.{tree_at}
 use Rattle.lt_shared.proofs.SeparateLemmas.{same_id}
-use Rattle.lt_shared.proofs.shared_store.SharedStoreTermStore.same.Goals as goal
+use Rattle.lt_shared.proofs.distinct.Distinct.same.Goals as goal
 
 pub returns : goal.returns
 returns c =
