@@ -14,5 +14,5 @@ returns-clause-stands c =
 pub returns-clause-once : goal.returns-clause-once
 returns-clause-once c other there =
     let separate = rw c.self.view_is at c.self.invariant.separate in
-    let at : slice_get c.args.self.now c.args.id ≡ Some (node_of c.view.result) = grind (arith, common_steps, gets) in
-    separate other c.args.id _ there at
+    let here : slice_get c.args.self.now c.args.id ≡ Some (node_of c.view.result) = grind (arith, common_steps, gets) in
+    separate other c.args.id _ there here
