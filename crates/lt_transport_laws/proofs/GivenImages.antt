@@ -1,5 +1,5 @@
 -- The search for the image of a constant that has one rule, whose raw side is any term.
-use Rattle.std.specs.Prelude.{◌≡◌, ◌⊎◌, ℕ, zero, suc, ◌<◌, List, [], ◌∷◌, ◌++◌, Option, Some, None, slice_get, IsSome, Contains, codes}
+use Rattle.std.specs.Prelude.{◌≡◌, ℕ, zero, suc, ◌<◌, List, [], ◌∷◌, ◌++◌, Option, Some, None, slice_get, IsSome, Contains, codes}
 use Rattle.std.proofs.Common.{refl, subst, sym, ap, ◌∙◌, inl, inr, arith}
 use Rattle.lt_definitions.specs.Types.{bool}
 use Rattle.lt_definitions.specs.Terms.{TermTree, term_nodes}
@@ -12,7 +12,7 @@ use Rattle.lt_transport_definitions.specs.Below.{AreBelow}
 use Rattle.lt_transport_definitions.specs.RuleForm.{TransferRule}
 use Rattle.lt_transport_definitions.specs.Candidates.{match_of, candidates, IsChoice}
 use Rattle.lt_transport_definitions.specs.Correspondence.{ChosenStatement, chosen_name, chosen_application, chosen_abstraction, chosen_rule, chosen_equality, not_chosen, Assignment, statement_of, numbers_of, AreCandidates, AreValues, IsAssignment, raw_side, rule_relations, binder_relations}
-use Rattle.lt_transport_definitions.specs.Search.{Question, Solution, IsLeast, IsAnswer, AreFilled, AreChoices, IsVisit, AreDifferent, HasVisits, HasImage, relations_of}
+use Rattle.lt_transport_definitions.specs.Search.{Solution, IsLeast, IsAnswer, AreFilled, AreChoices, IsVisit, AreDifferent, HasVisits, HasImage}
 use Rattle.lt_transport_definitions.specs.Reduction.{opens, LeadsTo, PassesLimit, IsNormLimit}
 use Rattle.lt_transport_laws.proofs.Rows.{IsIn}
 use Rattle.lt_transport_laws.proofs.Exclusive.{in_at}

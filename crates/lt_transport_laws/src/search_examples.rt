@@ -4,7 +4,7 @@ ghost use Rattle.lt_definitions.specs.Terms.{implies};
 ghost use Rattle.lt_definitions.specs.Samples.{con, app};
 ghost use Rattle.lt_texts.specs.Commands.{equiv_command};
 ghost use Rattle.lt_transport_definitions.specs.Relations.{equality};
-ghost use Rattle.lt_transport_definitions.specs.Search.{Solution, IsWhole, IsLeast, IsAnswer, HasVisits, HasMoreVisits, equal, relations_of, image_by};
+ghost use Rattle.lt_transport_definitions.specs.Search.{Solution, IsWhole, IsLeast, IsAnswer, HasVisits, equal, relations_of, image_by};
 ghost use Rattle.lt_transport_definitions.specs.SearchAnswers.{IsSearchLimit};
 ghost use Rattle.lt_transport_definitions.specs.Reduction.{Steps, IsNormalForm};
 ghost use Rattle.lt_transport_definitions.specs.Commands.{because};
