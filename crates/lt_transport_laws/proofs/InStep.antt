@@ -16,7 +16,8 @@ use Rattle.lt_transport_definitions.specs.QuotientTerms.{four_of}
 use Rattle.lt_transport_definitions.specs.Rows.{lemma_of, declared_constant, with_its_type}
 use Rattle.lt_transport_definitions.specs.LiftRows.{adds_lifted}
 use Rattle.lt_transport_definitions.specs.Parts.{tests_before}
-use Rattle.lt_transport_definitions.specs.Blocks.{row_of, ComesOfRow}
+use Rattle.lt_transport_definitions.specs.Table.{row_of}
+use Rattle.lt_transport_definitions.specs.Blocks.{ComesOfRow}
 use Rattle.lt_transport_laws.specs.SessionStatements.{IsStated, AreStated, relator_labels, form_labels, lifted_labels, IsInStep, SessionsStayInStep}
 use Rattle.lt_transport_laws.proofs.RowLemmas.{comes-unless}
 use Rattle.lt_transport_laws.proofs.RowFacts.{EachBlock, comes-block}
