@@ -1,9 +1,10 @@
 -- The first loose type variable of a term, over its nodes.
-use Rattle.std.proofs.Common.{◌≡◌, inl, inr, List, [], ◌∷◌, ◌++◌, map, Bool, true, false, not, ◌||◌, cond, Option, Some, None, refl, sym, ◌∙◌, ap, reverse, if◌then◌else◌}
+use Rattle.std.proofs.Common.{◌≡◌, inl, inr, ℕ, suc, ◌+◌, ◌<◌, length, drop, get_or, arith, List, [], ◌∷◌, ◌++◌, map, Bool, true, false, not, ◌||◌, cond, Option, Some, None, refl, sym, ◌∙◌, ap, reverse, if◌then◌else◌}
 use Rattle.std.specs.List.{find}
 use Rattle.std.specs.Option.{option_or}
+use Rattle.std.proofs.Math.Seq.{drop-cons}
 use Rattle.std.proofs.lemmas.List.Folds.{find-append}
-use Rattle.lt_definitions.specs.Types.{Chars, same_name, has_name, names_joined}
+use Rattle.lt_definitions.specs.Types.{Chars, same_name, has_name, names_joined, TypeTree, type_names, types_names, row}
 use Rattle.lt_definitions.specs.Terms.{TermTree, term_names, term_variables}
 use Rattle.lt_definitions.proofs.SameNames.{bool_cases, name-true}
 use Rattle.lt_nameless.proofs.BindingLemmas.{if-true, if-false}
@@ -74,3 +75,24 @@ found-joined p xs (y ∷ ys) = elim (bool_cases (has_name y xs)) [
 
 pub loose-variables : (allowed : List Chars) (t : TermTree) → first_loose allowed (term_variables t) ≡ loose_of allowed t
 loose-variables allowed t = found-joined (loose allowed) [] (term_names t)
+
+-- ---- the first of several types
+
+types-at : (allowed : List Chars) (types : List TypeTree) (i : ℕ) (ty : TypeTree) → i < length types → ty ≡ get_or types i ty
+    → first_loose allowed (types_names (row (drop i types))) ≡ option_or (first_loose allowed (type_names ty)) (first_loose allowed (types_names (row (drop (i + 1) types))))
+types-at allowed types i ty h e =
+    let next : suc i ≡ i + 1 = omega arith in
+    ap (λ (ts : List TypeTree). first_loose allowed (types_names (row ts))) (drop-cons types i ty h ∙ (λ j. sym e j ∷ drop (next j) types))
+    ∙ find-append (loose allowed) (type_names ty) (types_names (row (drop (i + 1) types)))
+
+pub types-some : (allowed : List Chars) (types : List TypeTree) (i : ℕ) (ty : TypeTree) (name : Chars) (o : Option Chars) → i < length types → ty ≡ get_or types i ty
+    → first_loose allowed (types_names (row types)) ≡ first_loose allowed (types_names (row (drop i types))) → o ≡ first_loose allowed (type_names ty) → o ≡ Some name
+    → Some name ≡ first_loose allowed (types_names (row types))
+types-some allowed types i ty name o h e k f g =
+    sym (k ∙ types-at allowed types i ty h e ∙ ap (λ p. option_or p (first_loose allowed (types_names (row (drop (i + 1) types))))) (sym f ∙ g))
+
+pub types-none : (allowed : List Chars) (types : List TypeTree) (i : ℕ) (ty : TypeTree) (o : Option Chars) → i < length types → ty ≡ get_or types i ty
+    → first_loose allowed (types_names (row types)) ≡ first_loose allowed (types_names (row (drop i types))) → o ≡ first_loose allowed (type_names ty) → o ≡ None
+    → first_loose allowed (types_names (row types)) ≡ first_loose allowed (types_names (row (drop (i + 1) types)))
+types-none allowed types i ty o h e k f g =
+    k ∙ types-at allowed types i ty h e ∙ ap (λ p. option_or p (first_loose allowed (types_names (row (drop (i + 1) types))))) (sym f ∙ g)

@@ -57,7 +57,7 @@ same-turned x y = elim (bool_cases (same_name x y)) [
 ]
 
 -- none of the second list is in the first
-apart : List Chars → List Chars → Bool
+abbrev apart : List Chars → List Chars → Bool
 apart xs [] = true
 apart xs (y ∷ ys) = not (has_name y xs) && apart xs ys
 
@@ -126,4 +126,4 @@ counted xs (y ∷ ys) = elim (bool_cases (has_name y xs)) [
     one-longer n k a b h = let e : a + suc b ≡ k + b = omega (arith, h) in ap (nat_eq n) e
 
 pub distinct-set : (params : List Chars) → nat_eq (length (names_joined [] params)) (length params) ≡ are_distinct params
-distinct-set params = counted [] params ∙ ap (λ (b : Bool). b && are_distinct params) (apart-none params)
+distinct-set params = let z : length params ≡ 0 + length params = omega arith in ap (nat_eq (length (names_joined [] params))) z ∙ counted [] params ∙ ap (λ (b : Bool). b && are_distinct params) (apart-none params)

@@ -1,10 +1,8 @@
 //! The statements that definitions and typedefs add, as terms.
 ghost use Rattle.std.specs.Prelude.{◌≡◌, [], ◌∷◌, length, true, IfOk};
-ghost use Rattle.std.specs.Str.{chars};
-ghost use Rattle.lt_definitions.specs.Characters.{is_name};
 ghost use Rattle.lt_definitions.specs.Types.{fun, type_variable, row};
 ghost use Rattle.lt_definitions.specs.Terms.{bound_name, constant, application};
-ghost use Rattle.lt_conditions.specs.Building.{closed_up};
+ghost use Rattle.lt_conditions.specs.Building.{closed_up, is_word};
 ghost use Rattle.lt_definitions.specs.Items.{declared, definition_statement, new_type, rep_statement, rep_inverse_statement, abs_inverse_statement};
 
 use crate::variables::own_variables;
@@ -123,9 +121,9 @@ pub fn abs_inverse_statement(
 
 /// From `all` and a body: the body for all values of its bound name.
 fn close(alloc: Global, builder: TermBuilder, name: &str, ty: &Ty) -> Result<Term, Memory>
-    requires word { is_name (chars name.now) ≡ true }
+    requires word { is_word name.now ≡ true }
     requires two { length builder ≡ 2 }
-    ensures { IfOk result (λ t. closed_up (chars name.now) ty.now builder ≡ t ∷ []) }
+    ensures { IfOk result (λ t. closed_up name.now ty.now builder ≡ t ∷ []) }
 {
     let word = Name::word(alloc, name)?;
     let copied = ty.copy(alloc)?;
@@ -136,8 +134,8 @@ fn close(alloc: Global, builder: TermBuilder, name: &str, ty: &Ty) -> Result<Ter
 
 /// One more term, a constant at one type.
 fn at_type(alloc: Global, builder: TermBuilder, name: &str, ty: &Ty) -> Result<TermBuilder, Memory>
-    requires { is_name (chars name.now) ≡ true }
-    ensures { IfOk result (λ b. b ≡ constant (chars name.now) (ty.now ∷ []) ∷ builder) }
+    requires { is_word name.now ≡ true }
+    ensures { IfOk result (λ b. b ≡ constant name.now (ty.now ∷ []) ∷ builder) }
 {
     let mut types = List::new(alloc);
     types.push(alloc, ty.copy(alloc)?)?;
@@ -147,8 +145,8 @@ fn at_type(alloc: Global, builder: TermBuilder, name: &str, ty: &Ty) -> Result<T
 
 /// One more term, a constant without type arguments.
 fn plain(alloc: Global, builder: TermBuilder, name: &str) -> Result<TermBuilder, Memory>
-    requires { is_name (chars name.now) ≡ true }
-    ensures { IfOk result (λ b. b ≡ constant (chars name.now) [] ∷ builder) }
+    requires { is_word name.now ≡ true }
+    ensures { IfOk result (λ b. b ≡ constant name.now [] ∷ builder) }
 {
     let name = Name::word(alloc, name)?;
     Ok(builder.constant(alloc, name, List::new(alloc))?)
@@ -156,8 +154,8 @@ fn plain(alloc: Global, builder: TermBuilder, name: &str) -> Result<TermBuilder,
 
 /// One more term, a bound name.
 fn bound(alloc: Global, builder: TermBuilder, name: &str) -> Result<TermBuilder, Memory>
-    requires { is_name (chars name.now) ≡ true }
-    ensures { IfOk result (λ b. b ≡ bound_name (chars name.now) ∷ builder) }
+    requires { is_word name.now ≡ true }
+    ensures { IfOk result (λ b. b ≡ bound_name name.now ∷ builder) }
 {
     let name = Name::word(alloc, name)?;
     Ok(builder.bound(alloc, name)?)

@@ -1,4 +1,5 @@
 use Rattle.std.proofs.Common.{◌≡◌, ◌+◌, ◌≤◌, ◌∙◌, Some, ap, sym, arith, length}
+use Rattle.std.proofs.lemmas.List.{length-take-le}
 use Rattle.lt_conditions.proofs.Fronts.{front, made-front, IsFront}
 use Rattle.lt_conditions.proofs.applied.term_to.Goals as goal
 
@@ -10,7 +11,7 @@ overflow_add-count c =
 pub slice_bounds-term_of-end : goal.slice_bounds-term_of-end
 slice_bounds-term_of-end c =
     let f : IsFront c.args.t.now c.nodes-nodes.result.now c.args.place = front c.args.t.now c.nodes-nodes.result.now c.args.place c.nodes-nodes.ensures c.requires in
-    f.within
+    sym (length-take-le (c.args.place + 1) c.nodes-nodes.result.now f.within)
 
 pub term_of-requires : goal.term_of-requires
 term_of-requires c =

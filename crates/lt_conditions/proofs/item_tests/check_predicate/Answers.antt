@@ -14,4 +14,4 @@ returns-in-Err-check_variables c =
 pub returns : goal.returns
 returns c =
     predicate-shaped c.args.params.now c.in_ok-allowed.allowed.keys c.args.predicate.now c.args.found c.args.inhabited.now _ c.len.result c.len-2.result c.check_shape.result
-    (c.in_ok-allowed.ensures ∙ ap (names_joined []) c.as_slice.ensures) c.len.ensures c.len-2.ensures refl c.in-Ok.ensures c.in-Ok-check_variables.ensures c.check_shape.ensures
+    (c.in_ok-allowed.ensures ∙ ap (names_joined []) c.as_slice.ensures) c.len.ensures.len c.len-2.ensures refl c.in-Ok.ensures c.in-Ok-check_variables.ensures c.check_shape.ensures
