@@ -1,5 +1,6 @@
 -- A theory that goes back to its first items.
-use Rattle.std.proofs.Common.{◌≡◌, ℕ, zero, suc, List, [], ◌∷◌, ◌++◌, length, map, take, drop, Option, None, Some, refl, sym, ◌∙◌, ap, subst, length-map}
+use Rattle.std.proofs.Common.{◌≡◌, ℕ, zero, suc, List, [], ◌∷◌, ◌++◌, length, map, take, drop, Option, None, Some, refl, sym, ◌∙◌, ap, subst}
+use Rattle.std.proofs.lemmas.List.{length-map}
 use Rattle.lt_definitions.specs.Types.{Chars, TypeTree}
 use Rattle.lt_definitions.specs.Terms.{TermTree}
 use Rattle.lt_definitions.specs.Typing.{Signature, typed}

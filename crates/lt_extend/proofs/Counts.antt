@@ -114,7 +114,7 @@ parted-at items n = ap items_of (sym (take-append-drop n items)) ∙ map-append 
 pub rest-at : (items : List Entry) (i : ℕ) (x : Entry) → slice_get items i ≡ Some x → items_of (drop i items) ≡ item_of x ∷ items_of (drop (i + 1) items)
 rest-at [] i x e = absurd (cc e)
 rest-at (y ∷ ys) zero x e = let same : y ≡ x = cc e in ap (λ z. item_of z ∷ items_of ys) same
-rest-at (y ∷ ys) (suc i) x e = rest-at ys i x e
+rest-at (y ∷ ys) (suc i) x e = let next : suc (i + 1) ≡ suc i + 1 = omega arith in rest-at ys i x e ∙ ap (λ (k : ℕ). item_of x ∷ items_of (drop k (y ∷ ys))) next
 
 pub none-left : (items : List Entry) (i : ℕ) → length items ≤ i → items_of (drop i items) ≡ []
 none-left items i h = ap items_of (drop_all i items h)

@@ -16,11 +16,11 @@ use Rattle.lt_extend.proofs.Behind.{behind-same, behind-on, behind-named, behind
 use Rattle.lt_extend.proofs.Stands.{stands-still, stands-more, stands-const, statements-on}
 
 -- What it is to name a term that is in the store.
-pub record IsStoredUnder (mid new : State) (kept kept1 : List (Chars × TermTree)) (l : Chars) (t : TermTree) (id : ℕ) (r : Result (Unit {0}) Memory) : Type 0 where
+pub record IsStoredUnder (mid new : State) (entries later : List (Chars × TermTree)) (l : Chars) (t : TermTree) (id : ℕ) (r : Result (Unit {0}) Memory) : Type 0 where
   pub ok : OnOk r (new ≡ record mid { named = mid.named ++ (l, id) ∷ [] })
-  pub kept : OnOk r (kept1 ≡ kept ++ (l, t) ∷ [])
+  pub kept : OnOk r (later ≡ entries ++ (l, t) ∷ [])
   pub err : OnErr r (new ≡ mid)
-  pub front : GoesOn kept kept1
+  pub front : GoesOn entries later
 
 pub stored-behind : (old mid new : State) (kept kept1 : List (Chars × TermTree)) (l : Chars) (t : TermTree) (id : ℕ) (r : Result (Unit {0}) Memory) → IsBehind old mid
     → IsStoredUnder mid new kept kept1 l t id r → IsBehind old new

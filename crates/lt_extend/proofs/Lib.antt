@@ -12,3 +12,6 @@ pub mod WholeLines
 pub mod Backward
 pub mod ProvedLemmas
 pub mod ToldSequents
+pub mod KeptLines
+pub mod Placed
+pub mod ToldLines

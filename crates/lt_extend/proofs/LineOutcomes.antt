@@ -28,7 +28,7 @@ use Rattle.lt_extend.specs.Standing.{StandsFor}
 use Rattle.lt_extend.specs.Storing.{IsStoredLine, StoresLine}
 use Rattle.lt_extend.specs.Deriving.{HasSequents, outcome_of, RefusesLine, line_fault, at_number, wrong_line, DerivesLine, DerivesLines}
 
-ok-outcome : (o : Outcome) (q : NamelessSequent) → nameless_outcome o ≡ Ok q → (s : Sequent) × (o ≡ Ok s) × (nameless_sequent s ≡ q)
+pub ok-outcome : (o : Outcome) (q : NamelessSequent) → nameless_outcome o ≡ Ok q → (s : Sequent) × (o ≡ Ok s) × (nameless_sequent s ≡ q)
 ok-outcome (Ok s) q e = (s, refl, cc e)
 ok-outcome (Err r) q e = absurd (cc e)
 

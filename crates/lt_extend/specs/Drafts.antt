@@ -8,11 +8,11 @@ use Rattle.lt_kernel.specs.State.{State}
 use Rattle.lt_extend.specs.declared.drafts.Mark.{Mark}
 
 -- The numbers are those of what is declared and stated.
-pub record IsMark (s : State) (kept : List (Chars × TermTree)) (mark : Mark) : Type 0 where
+pub record IsMark (s : State) (entries : List (Chars × TermTree)) (mark : Mark) : Type 0 where
   pub types : mark.proof.sig.types ≡ length s.signature.types
   pub constants : mark.proof.sig.constants ≡ length s.signature.consts
   pub named : mark.proof.statements ≡ length s.named
-  pub kept : mark.statements ≡ length kept
+  pub kept : mark.statements ≡ length entries
 
 -- the first so many types, constants and named statements, and no lines
 abbrev pub before : Mark → State → State

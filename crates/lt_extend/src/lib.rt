@@ -7,6 +7,7 @@ mod entering;
 mod lemmas;
 mod proving;
 mod storing;
+mod telling;
 mod theory;
 
 pub use lt_conditions::{ItemFault, TermSequent};

@@ -5,13 +5,12 @@ ghost use Rattle.std.specs.Option.{option_copied};
 ghost use Rattle.lt_definitions.specs.Types.{found};
 ghost use Rattle.lt_definitions.specs.Theory.{IsPlainTheory};
 ghost use Rattle.lt_hol.specs.declared.item.Item.TheVariants.{TypeDecl, ConstDecl, Axiom, Def, Typedef, Lemma};
-ghost use Rattle.lt_extend.specs.Theories.{items_of, context_behind, IsInStep, Adds, AddsLemma};
+ghost use Rattle.lt_extend.specs.Theories.{items_of, context_behind, IsInStep, Adds, AddsLemma, KeepsLemma};
 
 use crate::drafts::{commit, go_back, mark_before, mark_of, truncate};
-use crate::entering::{
-    enter_const, enter_definition, enter_statement, enter_stored, enter_type, enter_typedef,
-};
-use crate::lemmas::derive_lemma;
+use crate::entering::{enter_const, enter_definition, enter_statement, enter_type, enter_typedef};
+use crate::lemmas::{check_kept, derive_lemma, enter_lemma};
+use crate::telling::told_lines;
 use indexmap::IndexMap;
 use lt_conditions::{
     ItemFault, Statements, test_const, test_definition, test_statement, test_type, test_typedef,
@@ -266,25 +265,54 @@ impl<S: TermStore> Theory<S> {
             Ok(id) => id,
             Err(fault) => return Err(fault),
         };
-        self.proof.clear();
-        let mark = mark_of(&self.proof, &self.statements);
-        let entered = enter_stored(
-            alloc,
-            &mut self.proof,
-            &mut self.statements,
-            &label,
-            &statement,
-            id,
-        );
-        let item = Item::Lemma(label, statement, lines);
-        commit(
+        enter_lemma(
             alloc,
             &mut self.proof,
             &mut self.statements,
             &mut self.items,
-            mark,
-            entered,
-            item,
+            label,
+            statement,
+            lines,
+            id,
+        )
+    }
+
+    /// Adds the lemma whose lines are those of the kernel up to the one with a number: the refusals
+    /// of an axiom, then `NotProved` with the sequent of that line, none where there is no such line.
+    /// The kernel's lines are dropped.
+    ///
+    /// It takes time linear in the terms of these lines, as trees.
+    pub fn keep_lemma(
+        &mut self,
+        alloc: Global,
+        label: Name,
+        statement: Term,
+        line: usize,
+    ) -> Result<(), ItemFault>
+        requires { IsInStep self.old }
+        ensures keeps { KeepsLemma self.old label statement line self.new result }
+        ensures in_step { IsInStep self.new }
+    {
+        let _lines = self.proof.steps();
+        let sig = self.proof.signature();
+        match test_statement(alloc, sig, &self.statements, &label, &statement) {
+            Ok(()) => {}
+            Err(fault) => return Err(fault),
+        }
+        let id = match check_kept(alloc, &mut self.proof, &statement, line) {
+            Ok(id) => id,
+            Err(fault) => return Err(fault),
+        };
+        let lines = told_lines(alloc, &self.proof, line)?;
+        enter_lemma(
+            alloc,
+            &mut self.proof,
+            &mut self.statements,
+            &mut self.items,
+            label,
+            statement,
+            lines,
+            id,
         )
     }
 
@@ -355,7 +383,8 @@ impl<S: TermStore> Theory<S> {
 
     /// The kernel, to derive lines.
     pub fn proof(&mut self) -> &mut Proof<S>
-        ensures* lends { sem 𝓛 (Lends (the_row S.row) (proof_row S.row) self.entry result
+        ensures* lends { sem 𝓛 (Lends (the_row S.row S.TermStore) (proof_row S.row S.TermStore)
+            self.entry result
             (λ p. record self.old { proof = p })) }
         ensures is { result.now ≡ self.old.proof }
     {

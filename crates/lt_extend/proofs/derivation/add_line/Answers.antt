@@ -17,5 +17,5 @@ returns-in-Ok-apply-clause-derives g c = λ ctx done stands has.
 
 pub returns-in-Err-Bad-clause-derives : goal.returns-in-Err-Bad-clause-derives
 returns-in-Err-Bad-clause-derives g c = λ ctx done stands has. let told = rw c.in-Err-Bad.field-0-is at c.in-Err-Bad.ensures.answers in
-    line-bad ctx done (rule_of (trees c.args.lines.now.nodes) c.args.line.now) c.args.proof.now c.store_line.new.proof c.apply.new.self c.in-Ok.stored c.in-Err-Bad.field-0-0 c.args.number
+    line-bad ctx done (rule_of (trees c.args.lines.now.nodes) c.args.line.now) c.args.proof.now c.store_line.new.proof c.apply.new.self c.in-Ok.stored c.in-Err-Bad.reason c.args.number
     stands has c.in-Ok.ensures.kept c.in-Ok.ensures.stores told.0

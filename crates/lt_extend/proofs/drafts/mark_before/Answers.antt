@@ -1,4 +1,4 @@
-use Rattle.std.proofs.Common.{◌≡◌, ◌∙◌, ◌++◌, ◌+◌, ◌≤◌, List, length, map, take, drop, ap, sym, subst}
+use Rattle.std.proofs.Common.{arith, ◌≡◌, ◌∙◌, ◌++◌, ◌+◌, ◌≤◌, List, length, map, take, drop, ap, sym, subst}
 use Rattle.std.proofs.lemmas.List.{map-append, take-append-drop}
 use Rattle.lt_definitions.specs.Items as theory
 use Rattle.lt_definitions.specs.Items.{context_of, empty}
@@ -16,8 +16,8 @@ loop-at-init c =
     mark-first (items_of (take c.args.count c.args.items.now)) (items_of (drop c.args.count c.args.items.now)) c.args.now
     (subst IsPlainTheory e c.requires.valid) (subst (λ (is : List theory.Item). IsMarkOf (context_of empty is) c.args.now) e c.requires.now)
 
-pub without-requires : goal.without-requires
-without-requires c =
+pub without-mark-requires : goal.without-mark-requires
+without-mark-requires c =
     mark-enough (context_behind (take c.args.count c.args.items.now)) (item_of c.at.result.now) (items_of (drop (c.loop-at.at + 1) c.args.items.now)) c.loop-at.mark
     (subst (λ (is : List theory.Item). IsMarkWith (context_behind (take c.args.count c.args.items.now)) (total is) c.loop-at.mark) (rest-at c.args.items.now c.loop-at.at c.at.result.now c.at.ensures) c.loop-at.invariant)
 
@@ -30,4 +30,4 @@ loop-at-preserved c =
 pub returns : goal.returns
 returns c =
     mark-last (context_behind (take c.args.count c.args.items.now)) c.loop-at.mark
-    (subst (λ (is : List theory.Item). IsMarkWith (context_behind (take c.args.count c.args.items.now)) (total is) c.loop-at.mark) (none-left c.args.items.now c.loop-at.at c.loop-at-test.false) c.loop-at.invariant)
+    (subst (λ (is : List theory.Item). IsMarkWith (context_behind (take c.args.count c.args.items.now)) (total is) c.loop-at.mark) (none-left c.args.items.now c.loop-at.at (omega (arith, c.loop-at-test.false, c.len-at-end.ensures))) c.loop-at.invariant)
