@@ -76,7 +76,7 @@ mark-now items s kept mark h st m =
     record {
       types = m.types ∙ ap (λ (g : Signature). length g.types) st.signature;
       constants = m.constants ∙ ap (λ (g : Signature). length g.consts) st.signature;
-      named = m.named ∙ sym (length-map at s.named) ∙ ap length st.statements ∙ length-map tree (context_behind items).statements;
+      named = m.named ∙ sym (length-map s.named at) ∙ ap length st.statements ∙ length-map (context_behind items).statements tree;
       kept = m.kept ∙ ap length h.statements;
     }
 

@@ -105,7 +105,7 @@ pub record IsCommitted (s1 s2 : State) (kept1 kept2 : List (Chars × TermTree)) 
 
 on-ok : (entered : Result (Unit {0}) OutOfMemory) (P : Type 0) → IsOk entered → OnOk entered P → P
 on-ok (Ok x) P k h = h
-on-ok (Err e) P k h = absurd k
+on-ok (Err e) P k h = absurd (cc k)
 
 -- What is known behind an item that was to be added.
 pub record IsDone (items : List Item) (item : Item) (s0 s s2 : State) (items2 : List Item) (kept2 : List (Chars × TermTree)) (result : Result (Unit {0}) ItemFault) : Type 0 where

@@ -215,7 +215,7 @@ proved-some t None h = absurd (cc h)
 proved-some t (Some s) h = by (is_proved t (Some s)) refl h
   where
     by : (b : Bool) → is_proved t (Some s) ≡ b → refused_where (not b) (not_proved (Some s)) ≡ None → (is_proved t (Some s) ≡ true) × ((q : Sequent) × (Some s ≡ Some q))
-    by true e h = (e, s, refl)
+    by true e h = (e, (s, refl))
     by false e h = absurd (cc h)
 
 pub line-within : (s : State) (n : ℕ) (t : TermTree) (last : Option Sequent) → option_map nameless_sequent last ≡ line_at (sequents s) n → unproved t last ≡ None → n ≤ length s.steps

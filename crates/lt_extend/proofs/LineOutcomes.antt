@@ -166,8 +166,16 @@ line-within p (l ∷ ls) (suc i) line h e = line-within p ls i line (both-true (
 -- ---- what is told of a lemma
 
 lines-refused-typed : (n : ℕ) (f : Fault) (e : ItemFault) → RefusesLine (Some (n, ill_typed f)) e → Refuses (Some (in_line n f)) e
-lines-refused-typed n f (InLine m g) h = let same : Some (in_line n f) ≡ Some (in_line m h.0) = cc h.1 in (h.0, same, h.2)
-lines-refused-typed n f (BadLine m r) h = absurd (cc h)
+lines-refused-typed n f (InLine m g) h =
+    let pair : (n, ill_typed f) ≡ (m, ill_typed h.0) = cc h.1 in
+    let number : n ≡ m = ap (λ (q : ℕ × LineFault). q.0) pair in
+    let typed : ill_typed f ≡ ill_typed h.0 = ap (λ (q : ℕ × LineFault). q.1) pair in
+    let fault : f ≡ h.0 = cc typed in
+    (h.0, λ i. Some (in_line (number i) (fault i)), h.2)
+lines-refused-typed n f (BadLine m r) h =
+    let pair : (n, ill_typed f) ≡ (m, no_step r) = cc h in
+    let no : ill_typed f ≡ no_step r = ap (λ (q : ℕ × LineFault). q.1) pair in
+    absurd (cc no)
 lines-refused-typed n f Memory h = tt
 lines-refused-typed n f (Duplicate c) h = absurd h
 lines-refused-typed n f (UnknownType c) h = absurd h
@@ -184,8 +192,16 @@ lines-refused-typed n f TypedefShape h = absurd h
 lines-refused-typed n f (NotProved s) h = absurd h
 
 lines-refused-bad : (n : ℕ) (r : Reason) (e : ItemFault) → RefusesLine (Some (n, no_step r)) e → Refuses (Some (bad_line n r)) e
-lines-refused-bad n r (InLine m g) h = absurd (cc h.1)
-lines-refused-bad n r (BadLine m q) h = cc h
+lines-refused-bad n r (InLine m g) h =
+    let pair : (n, no_step r) ≡ (m, ill_typed h.0) = cc h.1 in
+    let no : no_step r ≡ ill_typed h.0 = ap (λ (q : ℕ × LineFault). q.1) pair in
+    absurd (cc no)
+lines-refused-bad n r (BadLine m k) h =
+    let pair : (n, no_step r) ≡ (m, no_step k) = cc h in
+    let number : n ≡ m = ap (λ (q : ℕ × LineFault). q.0) pair in
+    let step : no_step r ≡ no_step k = ap (λ (q : ℕ × LineFault). q.1) pair in
+    let reason : r ≡ k = cc step in
+    λ i. Some (bad_line (number i) (reason i))
 lines-refused-bad n r Memory h = tt
 lines-refused-bad n r (Duplicate c) h = absurd h
 lines-refused-bad n r (UnknownType c) h = absurd h

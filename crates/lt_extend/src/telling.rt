@@ -1,5 +1,5 @@
 //! Tells lines of the kernel as lines over terms.
-ghost use Rattle.std.specs.Prelude.{◌≡◌, ◌<◌, ◌≤◌, ◌++◌, ◌∷◌, [], length, map, IfOk, OnOk};
+ghost use Rattle.std.specs.Prelude.{◌≡◌, ◌<◌, ◌≤◌, ◌++◌, ◌∷◌, [], length, slice_get, Some, IfOk, OnOk};
 ghost use Rattle.lt_definitions.specs.Typing.{Signature};
 ghost use Rattle.lt_nameless.specs.Nameless.{IsWhole};
 ghost use Rattle.lt_store.specs.Trees.{tree_at};
@@ -8,7 +8,7 @@ ghost use Rattle.lt_extend.specs.Telling.{rules_at, rules_in, KeepsRules, IsPlac
 ghost use Rattle.lt_extend.specs.Placing.{HasPlaces, TakesPlaces};
 
 use lt_hol::{Line, Lines, Memory, Term, TermNode, TryCopy};
-use lt_kernel::Proof;
+use lt_kernel::{Proof, Step};
 use lt_store::{Id, TermStore, from_store};
 use std::alloc::Global;
 
@@ -24,9 +24,17 @@ pub(crate) fn told_lines<S: TermStore>(
     let mut lines = Lines::new(alloc);
     let steps = proof.steps();
     for i in 0..count {
-        add_told(alloc, proof.store(), &mut lines, &steps[i].line)?;
+        add_told(alloc, proof.store(), &mut lines, &step_at(steps, i).line)?;
     }
     Ok(lines)
+}
+
+/// The line at a place, from 0, with its sequent.
+fn step_at(steps: &[Step], at: usize) -> &Step
+    requires { at < length steps.now }
+    ensures { slice_get steps.now at ≡ Some result.now }
+{
+    &steps[at]
 }
 
 /// One more line, that of a kernel.

@@ -2,6 +2,7 @@ use Rattle.std.proofs.Common.{◌≡◌, ◌∙◌, ◌∷◌, [], ap, sym, subs
 use Rattle.lt_definitions.specs.Types.{Chars, found}
 use Rattle.lt_definitions.specs.Terms.{TermTree}
 use Rattle.lt_definitions.specs.Typing.{Signature, type_fault}
+use Rattle.lt_definitions.specs.Items.{empty, context_of, definition_label}
 use Rattle.lt_nameless.specs.Nameless.{nameless, IsWhole}
 use Rattle.lt_kernel.specs.State.{State}
 use Rattle.lt_extend.proofs.Accepted.{new-definition}
@@ -26,9 +27,9 @@ enter_statement-requires g c =
     let d = new-definition c.requires.0 c.args.name.now c.args.ty.now c.args.body.now ready.valid ready.accepted in
     record {
       whole = subst (λ (t : TermTree). IsWhole 0 (nameless [] t)) (sym c.in_ok-statement.ensures) d.whole;
-      new = ap (λ (l : Chars). found l c.enter_const.new.proof.named) c.in_ok-label.ensures ∙ ap (λ (s : State). found _ s.named) c.in_ok-enter_const.ensures.ok
-          ∙ unknown-label _ c.args.proof.now _ ready.stands.stands d.label;
-      fresh = ap (λ (l : Chars). found l c.args.statements.now.entries) c.in_ok-label.ensures ∙ ap (found _) ready.stands.statements ∙ d.label;
+      new = ap (λ (l : Chars). found l c.enter_const.new.proof.named) c.in_ok-label.ensures ∙ ap (λ (s : State). found (definition_label c.args.name.now) s.named) c.in_ok-enter_const.ensures.ok
+          ∙ unknown-label (context_of empty c.requires.0) c.args.proof.now (definition_label c.args.name.now) ready.stands.stands d.label;
+      fresh = ap (λ (l : Chars). found l c.args.statements.now.entries) c.in_ok-label.ensures ∙ ap (found (definition_label c.args.name.now)) ready.stands.statements ∙ d.label;
     }
 
 pub returns-in_err-enter_const-clause-behind : goal.returns-in_err-enter_const-clause-behind

@@ -9,22 +9,22 @@ use Rattle.lt_extend.proofs.lemmas.check_kept.Goals as goal
 pub check_proved-requires : goal.check_proved-requires
 check_proved-requires g c =
     let valid = c.requires.valid in
-    let read = read-all (context_of empty valid.0) c.args.proof.now valid.1.1 c.steps-_lines.ensures.derived in
+    let read = read-all (context_of empty valid.0) c.args.proof.now valid.2 c.steps-lines.ensures.derived in
     record {
       statement = c.in_ok-id.ensures.builds.made;
-      whole = whole-lines valid.0 read.rules c.add_term.new.self read.done valid.1.0 read.gives (c.add_term.ensures.keeps.sequents ∙ read.has);
+      whole = whole-lines valid.0 read.rules c.add_term.new.self read.done valid.1 read.gives (c.add_term.ensures.keeps.sequents ∙ read.has);
     }
 
 pub returns-in_err-id-clause-proves : goal.returns-in_err-id-clause-proves
 returns-in_err-id-clause-proves g c =
     let valid = c.requires.valid in
-    let read = read-all (context_of empty valid.0) c.args.proof.now valid.1.1 c.steps-_lines.ensures.derived in
+    let read = read-all (context_of empty valid.0) c.args.proof.now valid.2 c.steps-lines.ensures.derived in
     (line_at read.done c.args.line, line-read (context_of empty valid.0) c.args.proof.now read c.args.line, tt)
 
 pub returns-in-Err-clause-proves : goal.returns-in-Err-clause-proves
 returns-in-Err-clause-proves g c =
     let valid = c.requires.valid in
-    let read = read-all (context_of empty valid.0) c.args.proof.now valid.1.1 c.steps-_lines.ensures.derived in (
+    let read = read-all (context_of empty valid.0) c.args.proof.now valid.2 c.steps-lines.ensures.derived in (
       line_at read.done c.args.line,
       line-read (context_of empty valid.0) c.args.proof.now read c.args.line,
       c.in-Err.ensures read.done c.args.statement.now (c.add_term.ensures.keeps.sequents ∙ read.has) c.in_ok-id.ensures.builds.is,
@@ -33,7 +33,7 @@ returns-in-Err-clause-proves g c =
 pub returns-clause-proves : goal.returns-clause-proves
 returns-clause-proves g c =
     let valid = c.requires.valid in
-    let read = read-all (context_of empty valid.0) c.args.proof.now valid.1.1 c.steps-_lines.ensures.derived in (
+    let read = read-all (context_of empty valid.0) c.args.proof.now valid.2 c.steps-lines.ensures.derived in (
       line_at read.done c.args.line,
       line-read (context_of empty valid.0) c.args.proof.now read c.args.line,
       c.in-Ok.ensures read.done c.args.statement.now (c.add_term.ensures.keeps.sequents ∙ read.has) c.in_ok-id.ensures.builds.is,

@@ -17,11 +17,11 @@ pub check_proved-requires : goal.check_proved-requires
 check_proved-requires g c =
     let valid = c.requires.valid in
     let ctx = context_of empty valid.0 in
-    let cleared = stands-still ctx c.args.proof.now c.clear.new.self valid.1.1 (stays-cleared c.args.proof.now c.args.proof.now c.clear.new.self (stays-same c.args.proof.now) c.clear.ensures) in
+    let cleared = stands-still ctx c.args.proof.now c.clear.new.self valid.2 (stays-cleared c.args.proof.now c.args.proof.now c.clear.new.self (stays-same c.args.proof.now) c.clear.ensures) in
     let got = c.in-Ok.ensures.derives ctx cleared in
     record {
       statement = c.in_ok-id.ensures.builds.made;
-      whole = whole-lines valid.0 (rules_of c.args.lines.now.nodes c.args.lines.now.lines) c.add_term.new.self got.0 valid.1.0 got.1.0 (c.add_term.ensures.keeps.sequents ∙ got.1.1);
+      whole = whole-lines valid.0 (rules_of c.args.lines.now.nodes c.args.lines.now.lines) c.add_term.new.self got.0 valid.1 got.1 (c.add_term.ensures.keeps.sequents ∙ got.2);
     }
 
 pub returns-in-Err-clause-stays : goal.returns-in-Err-clause-stays
@@ -44,9 +44,9 @@ pub returns-in-Err-check_proved-clause-proves : goal.returns-in-Err-check_proved
 returns-in-Err-check_proved-clause-proves g c = λ ctx st.
     let cleared = stands-still ctx c.args.proof.now c.clear.new.self st (stays-cleared c.args.proof.now c.args.proof.now c.clear.new.self (stays-same c.args.proof.now) c.clear.ensures) in
     let got = c.in-Ok.ensures.derives ctx cleared in
-    let count = c.len.ensures ∙ sym c.in-Ok.ensures.count ∙ sym (done-length c.add_lines.new.proof got.0 got.1.1) in
-    subst (λ (o : Option Refusal). Refuses o c.in-Err-check_proved.fault) (sym (proof-tested c.args.statement.now _ got.0 c.len.result got.1.0 count))
-    (c.in-Err-check_proved.ensures got.0 c.args.statement.now (c.add_term.ensures.keeps.sequents ∙ got.1.1) c.in_ok-id.ensures.builds.is)
+    let count = c.len.ensures ∙ sym c.in-Ok.ensures.count ∙ sym (done-length c.add_lines.new.proof got.0 got.2) in
+    subst (λ (o : Option Refusal). Refuses o c.in-Err-check_proved.fault) (sym (proof-tested c.args.statement.now _ got.0 c.len.result got.1 count))
+    (c.in-Err-check_proved.ensures got.0 c.args.statement.now (c.add_term.ensures.keeps.sequents ∙ got.2) c.in_ok-id.ensures.builds.is)
 
 pub returns-clause-stays : goal.returns-clause-stays
 returns-clause-stays g c =
@@ -56,6 +56,6 @@ pub returns-clause-proves : goal.returns-clause-proves
 returns-clause-proves g c = λ ctx st.
     let cleared = stands-still ctx c.args.proof.now c.clear.new.self st (stays-cleared c.args.proof.now c.args.proof.now c.clear.new.self (stays-same c.args.proof.now) c.clear.ensures) in
     let got = c.in-Ok.ensures.derives ctx cleared in
-    let count = c.len.ensures ∙ sym c.in-Ok.ensures.count ∙ sym (done-length c.add_lines.new.proof got.0 got.1.1) in
-    proof-tested c.args.statement.now _ got.0 c.len.result got.1.0 count
-    ∙ c.in-Ok-check_proved.ensures got.0 c.args.statement.now (c.add_term.ensures.keeps.sequents ∙ got.1.1) c.in_ok-id.ensures.builds.is
+    let count = c.len.ensures ∙ sym c.in-Ok.ensures.count ∙ sym (done-length c.add_lines.new.proof got.0 got.2) in
+    proof-tested c.args.statement.now _ got.0 c.len.result got.1 count
+    ∙ c.in-Ok-check_proved.ensures got.0 c.args.statement.now (c.add_term.ensures.keeps.sequents ∙ got.2) c.in_ok-id.ensures.builds.is

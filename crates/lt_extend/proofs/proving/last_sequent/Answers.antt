@@ -17,9 +17,9 @@ sequent_of-requires g c =
       whole = subst (λ (ns : List Node). IsWholeSequent (sequent_at ns s)) (sym c.store.ensures) (whole-line (sequents c.args.proof.now) c.args.number (sequent_at c.args.proof.now.nodes s) c.requires at);
     }
 
-pub returns-in_ok-sequent_of : goal.returns-in_ok-sequent_of
-returns-in_ok-sequent_of g c =
-    ap Some (c.in_ok-sequent_of.ensures ∙ ap (λ (ns : List Node). sequent_at ns c.in-Some.sequent.now) c.store.ensures)
+pub returns-in_ok-sequent_of-in-Some : goal.returns-in_ok-sequent_of-in-Some
+returns-in_ok-sequent_of-in-Some g c =
+    ap Some (c.in_ok-sequent_of-in-Some.ensures ∙ ap (λ (ns : List Node). sequent_at ns c.in-Some.sequent.now) c.store.ensures)
     ∙ sym (line-stored c.args.proof.now.nodes c.args.proof.now.steps c.args.number ∙ ap (option_map (sequent_at c.args.proof.now.nodes)) (sym c.sequent.ensures.is ∙ ap option_copied c.in-Some.is))
 
 pub returns-in-None : goal.returns-in-None

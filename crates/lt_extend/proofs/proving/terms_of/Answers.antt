@@ -1,5 +1,5 @@
 use Rattle.lt_store.specs.Trees.{AllBelow}
-use Rattle.std.proofs.Common.{length, ◌<◌, ◌∙◌, sym}
+use Rattle.std.proofs.Common.{arith, length, ◌<◌, ◌∙◌, sym}
 use Rattle.lt_extend.proofs.ToldSequents.{all-at, whole-at, told-next, told-all}
 use Rattle.lt_extend.proofs.proving.terms_of.Goals as goal
 
@@ -14,4 +14,4 @@ loop-at-preserved g c =
     told-next (g.S.TermStore.nodes c.args.store.now) c.args.ids.now c.loop-at.at c.at.result.now c.loop-at.terms c.push.new.self c.in_ok-term.term c.loop-at.invariant c.at.ensures c.in_ok-term.ensures c.in_ok-push.ensures.ok
 
 pub returns : goal.returns
-returns g c = told-all (g.S.TermStore.nodes c.args.store.now) c.args.ids.now c.loop-at.at c.loop-at.terms c.loop-at.invariant c.loop-at-test.false
+returns g c = told-all (g.S.TermStore.nodes c.args.store.now) c.args.ids.now c.loop-at.at c.loop-at.terms c.loop-at.invariant (omega (arith, c.loop-at-test.false, c.len-at-end.ensures))

@@ -6,9 +6,6 @@ use Rattle.lt_extend.proofs.Placed.{IsLaid, laid-first, laid-room, laid-next, la
 use Rattle.lt_extend.proofs.ToldLines.{kept-none, kept-on}
 use Rattle.lt_extend.proofs.telling.add_term.Goals as goal
 
-pub loop-node-init : goal.loop-node-init
-loop-node-init c = record { laid = laid-first c.args.lines.now.nodes c.new-places.result.items c.new-places.ensures.items; kept = kept-none c.args.lines.now }
-
 pub placed_node-requires : goal.placed_node-requires
 placed_node-requires c =
     let now : IsStep c.nodes-node-items.result.now c.loop-node.node-index c.node-item.result =
@@ -17,17 +14,6 @@ placed_node-requires c =
 
 pub add_node-requires : goal.add_node-requires
 add_node-requires c = (laid-next _ _ _ c.node-item.result _ _ c.loop-node.invariant.laid c.in_ok-placed.ensures).children
-
-pub returns-in_err-placed-clause-kept : goal.returns-in_err-placed-clause-kept
-returns-in_err-placed-clause-kept c = c.loop-node.invariant.kept
-
-pub returns-in_err-place-clause-kept : goal.returns-in_err-place-clause-kept
-returns-in_err-place-clause-kept c =
-    kept-on c.args.lines.now c.loop-node.lines c.add_node.new.self c.loop-node.invariant.kept (record { lines = c.in_err-place.ensures.lines; rules = c.in_err-place.ensures.rules })
-
-pub returns-in_err-push-clause-kept : goal.returns-in_err-push-clause-kept
-returns-in_err-push-clause-kept c =
-    kept-on c.args.lines.now c.loop-node.lines c.add_node.new.self c.loop-node.invariant.kept (record { lines = c.in_ok-place.ensures.lines; rules = c.in_ok-place.ensures.rules })
 
 pub loop-node-preserved : goal.loop-node-preserved
 loop-node-preserved c =
@@ -50,6 +36,3 @@ returns-clause-placed c =
     let at = laid-at c.loop-node.lines.nodes c.loop-node.places.items c.last_of.result c.args.t.now _ c.loop-node.invariant.laid
     (whole _ c.args.t.now _ c.nodes-node-items.ensures c.loop-node.auto.node-index-end c.loop-node-test.false) c.last_of.ensures in
     record { within = at.0; is = at.1 }
-
-pub returns-clause-kept : goal.returns-clause-kept
-returns-clause-kept c = c.loop-node.invariant.kept

@@ -48,9 +48,3 @@ returns-clause-adds g c =
     lemma-outside c.self.inside.items c.self.inside.proof c.args.self.now _ (Lemma c.args.label c.args.statement c.args.lines) c.enter_lemma.result c.self.view_is
     (lemma-behind c.self.inside.items c.self.inside.proof c.derive_lemma.new.proof _ (Lemma c.args.label c.args.statement c.args.lines) c.enter_lemma.result c.in-Ok-derive_lemma.ensures.stays
     c.enter_lemma.ensures.adds)
-
-pub returns-clause-in_step : goal.returns-clause-in_step
-returns-clause-in_step g c = c.enter_lemma.ensures.in_step
-
-pub invariant_of-self : goal.invariant_of-self
-invariant_of-self g c = c.enter_lemma.ensures.held

@@ -7,8 +7,8 @@ use Rattle.lt_extend.proofs.Committed.{in-step-inside}
 use Rattle.lt_extend.proofs.Backward.{mark-now, stands-back, held-back}
 use Rattle.lt_extend.proofs.theory.Theory.back.Goals as goal
 
-pub mark_before-requires : goal.mark_before-requires
-mark_before-requires g c = record {
+pub mark_before-then-requires : goal.mark_before-then-requires
+mark_before-then-requires g c = record {
   within = subst (λ (h : Holding). c.args.mark ≤ length h.items) (sym c.self.view_is) c.requires.within;
   valid = c.self.invariant.valid;
   now = mark-now c.self.inside.items c.self.inside.proof c.self.inside.statements.entries c.mark_of-now.result c.self.invariant
