@@ -1,5 +1,6 @@
 -- Lines that a kernel has derived, read with names of binders, are a derivation over the items.
 use Rattle.std.proofs.Common.{◌≡◌, ℕ, zero, suc, ◌+◌, ◌≤◌, ◌<◌, List, [], ◌∷◌, ◌++◌, length, map, take, drop, slice_get, Bool, true, false, not, ◌&&◌, Option, Some, None, option_map, Result, Ok, Err, refl, sym, ◌∙◌, ap, subst, arith, append_assoc, append-nil}
+use Rattle.std.specs.Result.{IsErrAnd}
 use Rattle.std.proofs.Math.Seq.{take-append_seam}
 use Rattle.std.proofs.lemmas.List.{map-append, length-map, take-map, take-append-drop, length-take-le}
 use Rattle.std.proofs.lemmas.Option.{none-some, slice_get_within}
@@ -10,7 +11,7 @@ use Rattle.lt_definitions.specs.Rules.{Sequent, Rule, rule_map, by_assume, by_we
 use Rattle.lt_definitions.specs.Derivations.{term_fault, rule_fault, derived, Derives, IsPartOf}
 use Rattle.lt_definitions.specs.Alpha.{is_alpha}
 use Rattle.lt_definitions.specs.Items.{Context}
-use Rattle.lt_definitions.specs.Theory.{has_none, is_proved, last_of, not_proved, refused_where, proof_test}
+use Rattle.lt_definitions.specs.Theory.{Refusal, has_none, is_proved, last_of, not_proved, refused_where, proof_test}
 use Rattle.lt_definitions.proofs.TypingLemmas.{both-none}
 use Rattle.lt_nameless.specs.Nameless.{Nameless, NamelessSequent, nameless, nameless_sequent, named}
 use Rattle.lt_nameless.specs.NamelessRules.{nameless_rule, nameless_statements, nameless_step, nameless_fault, same_nameless}
@@ -29,7 +30,11 @@ use Rattle.lt_kernel.specs.Lines.{rule_at}
 use Rattle.lt_kernel.specs.Sequents.{sequent_at, sequents_at, statements_at}
 use Rattle.lt_kernel.specs.State.{State, sequents, statements, Keeps}
 use Rattle.lt_kernel.proofs.DerivedLines.{rule-extends}
+use Rattle.lt_conditions.specs.declared.item_fault.ItemFault.{ItemFault}
+use Rattle.lt_conditions.specs.declared.item_fault.ItemFault.TheVariants.{Memory}
+use Rattle.lt_conditions.specs.Refusing.{Refuses}
 use Rattle.lt_extend.specs.Deriving.{HasSequents}
+use Rattle.lt_extend.specs.Lemmas.{Proves}
 use Rattle.lt_extend.specs.Proving.{unproved}
 use Rattle.lt_extend.specs.Standing.{StandsFor}
 use Rattle.lt_extend.specs.Telling.{rules_at}
@@ -241,6 +246,11 @@ kept-proof ctx s n t last rules h d is e u =
     ∙ line-front (sequents s) n ∙ sym e in
     let yes : is_proved t (last_of ss) ≡ true = proved-alike t (last_of ss) last line ∙ (proved-some t last u).0 in
     ap (proof_test t) done ∙ ap (λ (b : Bool). refused_where (not b) (not_proved (last_of ss))) yes
+
+-- want of memory, whatever is refused
+pub proves-memory : (o : Option Refusal) (r : Result ℕ ItemFault) → IsErrAnd r (λ e. e ≡ Memory) → Proves o r
+proves-memory o (Ok id) h = absurd h
+proves-memory o (Err e) h = subst (λ (q : ItemFault). Refuses o q) (sym h) tt
 
 -- ---- lines that stay
 

@@ -97,8 +97,8 @@ pub whole-statement : (sig : Signature) (t : TermTree) → boolean_test (typed s
 whole-statement sig t h = whole-term sig t (boolean-typed (typed sig [] t) h)
 
 -- what is told of a line
-pub proved-none : (t : TermTree) (o : Option Sequent) (yes : Bool) → yes ≡ is_proved t o → yes ≡ true → unproved t o ≡ None
-proved-none t o yes h e = ap (λ (b : Bool). refused_where (not b) (not_proved o)) (sym h ∙ e)
+pub proved-none : (t : TermTree) (o : Option Sequent) (found : Bool) → found ≡ is_proved t o → found ≡ true → unproved t o ≡ None
+proved-none t o found h e = ap (λ (b : Bool). refused_where (not b) (not_proved o)) (sym h ∙ e)
 
-pub proved-some : (t : TermTree) (o : Option Sequent) (yes : Bool) → yes ≡ is_proved t o → yes ≡ false → unproved t o ≡ Some (not_proved o)
-proved-some t o yes h e = ap (λ (b : Bool). refused_where (not b) (not_proved o)) (sym h ∙ e)
+pub proved-some : (t : TermTree) (o : Option Sequent) (found : Bool) → found ≡ is_proved t o → found ≡ false → unproved t o ≡ Some (not_proved o)
+proved-some t o found h e = ap (λ (b : Bool). refused_where (not b) (not_proved o)) (sym h ∙ e)

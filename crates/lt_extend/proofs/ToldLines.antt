@@ -2,7 +2,7 @@
 use Rattle.std.proofs.Common.{◌≡◌, ℕ, ◌+◌, ◌<◌, Result, Ok, Err, IfOk, OnOk, List, [], ◌∷◌, ◌++◌, length, map, take, slice_get, get_or, true, ◌&&◌, nat_lt, Some, None, refl, sym, ◌∙◌, ap, subst, arith}
 use Rattle.std.proofs.lemmas.List.{map-append, take_more}
 use Rattle.std.proofs.lemmas.Bool.{lt-ltb, and_from}
-use Rattle.std.proofs.lemmas.Option.{slice_get_read}
+use Rattle.std.proofs.lemmas.Option.{slice_get_within, get_or_from_slice_get}
 use Rattle.lt_definitions.specs.Types.{Chars, TypeTree}
 use Rattle.lt_definitions.specs.Typing.{Signature, type_fault}
 use Rattle.lt_definitions.specs.Rules.{Rule, by_assume, by_weaken, by_refl, by_beta, by_eta, by_impI, by_allE, by_inst, by_select, by_ccontr}
@@ -30,10 +30,14 @@ pub kept-on : (old mid new : Lines) → KeepsRules old mid → KeepsRules mid ne
 kept-on old mid new p q = record { lines = q.lines ∙ p.lines; rules = q.rules ∙ p.rules }
 
 -- the first so many lines, and one more
-pub rules-next : (s : State) (i : ℕ) (st : Step) → i < length s.steps → st ≡ get_or s.steps i st → rules_at s (i + 1) ≡ rules_at s i ++ rule_at s.nodes st.line ∷ []
-rules-next s i st h e =
-    let f : Step → Rule Nameless = λ st. rule_at s.nodes st.line in
-    ap (map f) (take_more s.steps i st h ∙ ap (λ (q : Step). take i s.steps ++ q ∷ []) (sym e)) ∙ map-append f (take i s.steps) (st ∷ [])
+pub rules-next : (s : State) (nodes : List Node) (steps : List Step) (i : ℕ) (st : Step) (old new : List (Rule Nameless)) → nodes ≡ s.nodes → steps ≡ s.steps → slice_get steps i ≡ Some st → old ≡ rules_at s i
+    → new ≡ old ++ rule_at nodes st.line ∷ [] → new ≡ rules_at s (i + 1)
+rules-next s nodes steps i st old new e f h before is =
+    let rule : Step → Rule Nameless = λ st. rule_at s.nodes st.line in
+    let at : slice_get s.steps i ≡ Some st = ap (λ (ss : List Step). slice_get ss i) (sym f) ∙ h in
+    let next : take (i + 1) s.steps ≡ take i s.steps ++ st ∷ [] =
+    take_more s.steps i st (slice_get_within s.steps i st at) ∙ ap (λ (q : Step). take i s.steps ++ q ∷ []) (get_or_from_slice_get s.steps i st st at) in
+    is ∙ (λ j. before j ++ rule_at (e j) st.line ∷ []) ∙ sym (ap (map rule) next ∙ map-append rule (take i s.steps) (st ∷ []))
 
 -- a line that is told by its variant
 pub good-at : (sig : Signature) (nodes : List Node) (line also : Line) → line ≡ also → IsGoodLine sig nodes line → IsGoodLine sig nodes also

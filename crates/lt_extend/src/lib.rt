@@ -12,6 +12,3 @@ mod theory;
 
 pub use lt_conditions::{ItemFault, TermSequent};
 pub use theory::Theory;
-
-#[cfg(test)]
-mod tests;

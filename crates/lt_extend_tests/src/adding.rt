@@ -1,22 +1,27 @@
-//! Each call once, with memory enough.
+//! Each call that adds an item, with memory enough.
 ghost use Rattle.std.specs.Prelude.{IfOk};
 ghost use Rattle.lt_extend.specs.Theories.{IsInStep};
 
-use crate::{ItemFault, Theory};
+use lt_extend::{ItemFault, Theory};
 use lt_hol::{Line, Lines, List, Memory, Name, Term, Ty};
 use lt_store::PlainStore;
 use std::alloc::Global;
 use std::test::Fail;
 
-fn word(alloc: Global, text: &str) -> Result<Name, Memory> {
+pub(crate) fn word(alloc: Global, text: &str) -> Result<Name, Memory> {
     match Name::new(alloc, text)? {
         Some(name) => Ok(name),
         None => Err(Memory),
     }
 }
 
-fn constant(alloc: Global, name: &str) -> Result<Term, Memory> {
+pub(crate) fn constant(alloc: Global, name: &str) -> Result<Term, Memory> {
     Term::constant(alloc, word(alloc, name)?, List::new(alloc))
+}
+
+/// `P z`
+pub(crate) fn held(alloc: Global) -> Result<Term, Memory> {
+    Term::app(alloc, constant(alloc, "P")?, constant(alloc, "z")?)
 }
 
 fn add_const(
@@ -33,7 +38,7 @@ fn add_const(
 }
 
 /// A type `nat`, `z` of it, a predicate `P`, `P z`, a definition, a typedef and a lemma.
-fn front(alloc: Global) -> Result<Theory<PlainStore>, ItemFault>
+pub(crate) fn front(alloc: Global) -> Result<Theory<PlainStore>, ItemFault>
     ensures { IfOk result (λ t. IsInStep t) }
 {
     let mut th = Theory::new(alloc, PlainStore::new(alloc))?;
@@ -43,10 +48,8 @@ fn front(alloc: Global) -> Result<Theory<PlainStore>, ItemFault>
     let nat = Ty::con(alloc, word(alloc, "nat")?, List::new(alloc))?;
     let predicate = Ty::fun(alloc, nat, Ty::bool(alloc)?)?;
     add_const(&mut th, alloc, "P", predicate)?;
-    let held = Term::app(alloc, constant(alloc, "P")?, constant(alloc, "z")?)?;
-    th.add_axiom(alloc, word(alloc, "Pz")?, held)?;
-    let held = Term::app(alloc, constant(alloc, "P")?, constant(alloc, "z")?)?;
-    th.define(alloc, word(alloc, "d")?, Ty::bool(alloc)?, held)?;
+    th.add_axiom(alloc, word(alloc, "Pz")?, held(alloc)?)?;
+    th.define(alloc, word(alloc, "d")?, Ty::bool(alloc)?, held(alloc)?)?;
     th.typedef(
         alloc,
         word(alloc, "t")?,
@@ -56,10 +59,9 @@ fn front(alloc: Global) -> Result<Theory<PlainStore>, ItemFault>
         word(alloc, "abs_t")?,
         word(alloc, "rep_t")?,
     )?;
-    let held = Term::app(alloc, constant(alloc, "P")?, constant(alloc, "z")?)?;
     let mut lines = Lines::new(alloc);
     lines.push(alloc, Line::Thm(word(alloc, "Pz")?))?;
-    th.add_lemma(alloc, word(alloc, "again")?, held, lines)?;
+    th.add_lemma(alloc, word(alloc, "again")?, held(alloc)?, lines)?;
     Ok(th)
 }
 
