@@ -4,3 +4,4 @@ pub mod TermPieces
 pub mod OpenBinders
 pub mod ItemHeads
 pub mod Constants
+pub mod LineTexts

@@ -3,3 +3,4 @@ pub mod TypeText
 pub mod TermText
 pub mod Depths
 pub mod ItemText
+pub mod SequentText

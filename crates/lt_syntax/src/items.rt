@@ -41,7 +41,7 @@ pub fn count_line(
 }
 
 /// Adds an item's command without its end, and for a lemma without its lines.
-fn write_head(alloc: Global, text: &mut Text, item: &Item) -> Result<(), Memory>
+pub(crate) fn write_head(alloc: Global, text: &mut Text, item: &Item) -> Result<(), Memory>
     ensures { OnOk result (text.new ≡ text.old ++ printed_head (item_of item.now)) }
 {
     match item {

@@ -1,9 +1,11 @@
-//! Types, terms and summary lines of items as text.
+//! Types, terms, sequents and items as text.
 #![tactic(auto)]
 
 mod binders;
 mod items;
+mod lines;
 mod pieces;
+mod sequents;
 mod terms;
 #[cfg(test)]
 mod tests;
@@ -11,5 +13,8 @@ mod text;
 mod types;
 
 pub use items::{count_line, summary_line};
-pub use terms::print_term;
-pub use types::print_type;
+pub use lines::write_item;
+pub use sequents::{print_sequent, write_sequent};
+pub use terms::{print_term, write_term};
+pub use text::Text;
+pub use types::{print_type, write_type};

@@ -24,7 +24,7 @@ pub fn print_term(alloc: Global, term: &Term) -> Result<String, Memory>
 }
 
 /// Adds a term to a text.
-pub(crate) fn write_term(alloc: Global, text: &mut Text, term: &Term) -> Result<(), Memory>
+pub fn write_term(alloc: Global, text: &mut Text, term: &Term) -> Result<(), Memory>
     ensures { OnOk result (text.new ≡ text.old ++ printed_term [] term.now) }
 {
     let mut pieces = Vec::new(alloc);

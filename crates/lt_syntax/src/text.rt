@@ -9,7 +9,7 @@ use std::marker::Model;
 
 /// Text that grows at its end, which contracts see as its list of characters.
 #[derive(Debug, Drop)]
-pub(crate) struct Text {
+pub struct Text {
     text: String,
 }
 
@@ -27,7 +27,7 @@ impl Model for Text {
 
 impl Text {
     /// The empty text.
-    pub(crate) fn new(alloc: Global) -> Text
+    pub fn new(alloc: Global) -> Text
         ensures { result ≡ [] }
     {
         Text {
@@ -36,7 +36,7 @@ impl Text {
     }
 
     /// Adds signs, words and spaces, which are ASCII.
-    pub(crate) fn signs(&mut self, signs: &str) -> Result<(), Memory>
+    pub fn signs(&mut self, signs: &str) -> Result<(), Memory>
         requires { are_ascii signs.now ≡ true }
         ensures { OnOk result (self.new ≡ self.old ++ signs.now) }
     {
@@ -45,7 +45,7 @@ impl Text {
     }
 
     /// Adds a name.
-    pub(crate) fn name(&mut self, name: &Name) -> Result<(), Memory>
+    pub fn name(&mut self, name: &Name) -> Result<(), Memory>
         ensures { OnOk result (self.new ≡ self.old ++ name.now) }
     {
         self.text.push_str(name.text())?;
@@ -53,7 +53,7 @@ impl Text {
     }
 
     /// Adds a number in decimal.
-    pub(crate) fn number(&mut self, n: usize) -> Result<(), Memory>
+    pub fn number(&mut self, n: usize) -> Result<(), Memory>
         ensures { OnOk result (self.new ≡ self.old ++ decimal n) }
     {
         write!(self.text, "{n}")?;
@@ -61,7 +61,7 @@ impl Text {
     }
 
     /// The text as a string.
-    pub(crate) fn finish(self) -> String
+    pub fn finish(self) -> String
         ensures { string_bytes result ≡ encode_utf8_all self }
     {
         let Text { text } = self;

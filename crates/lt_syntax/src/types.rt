@@ -19,7 +19,7 @@ pub fn print_type(alloc: Global, ty: &Ty) -> Result<String, Memory>
 }
 
 /// Adds a type to a text.
-pub(crate) fn write_type(alloc: Global, text: &mut Text, ty: &Ty) -> Result<(), Memory>
+pub fn write_type(alloc: Global, text: &mut Text, ty: &Ty) -> Result<(), Memory>
     ensures { OnOk result (text.new ≡ text.old ++ printed_type ty.now) }
 {
     let mut rows = Vec::new(alloc);

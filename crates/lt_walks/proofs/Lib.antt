@@ -1,0 +1,4 @@
+pub mod OneWalk
+pub mod EachWalk
+pub mod PlainWalkLemmas
+pub mod OnTheWay

@@ -1,0 +1,5 @@
+pub mod Walks
+pub mod PlainWalks
+pub mod RefusalTexts
+pub mod Outputs
+pub mod Calls
