@@ -1,13 +1,11 @@
 -- What is known of an item that no test refuses.
-use Rattle.std.proofs.Common.{◌≡◌, ◌≢◌, ℕ, List, [], ◌∷◌, ◌++◌, length, get_or, true, false, ◌&&◌, Some, None, Ok, Option, refl, sym, ◌∙◌, ap, subst, codes, arith, length-append}
+use Rattle.std.proofs.Common.{◌≡◌, List, [], ◌∷◌, ◌++◌, length, get_or, true, false, ◌&&◌, Some, None, Ok, Option, refl, sym, ◌∙◌, ap, subst, codes, arith, length-append}
 use Rattle.std.proofs.lemmas.List.{append_cancel_left}
 use Rattle.lt_definitions.specs.Types.{Chars, same_name, same_type, found, TypeTree, TypeTrees, type_variable, type_constructor, no_types, type_and, bool, fun, listed}
 use Rattle.lt_definitions.specs.Terms.{TermTree}
-use Rattle.lt_definitions.specs.Typing.{Signature, built_in, constructor_fault, type_fault, types_fault, typed, HasType, earlier}
-use Rattle.lt_definitions.specs.Derivations.{IsPartOf}
-use Rattle.lt_definitions.specs.Items.{Item, axiom_item, def_item, typedef_item, lemma_item, Context, empty, with_types, with_consts, with_statements, with_item, with_typedef, context_of, definition_label, definition_statement, new_type, rep_label, rep_inverse_label, abs_inverse_label, rep_statement, rep_inverse_statement, abs_inverse_statement, typedef_statements, raw_type}
+use Rattle.lt_definitions.specs.Typing.{Signature, constructor_fault, type_fault, types_fault, typed, earlier}
+use Rattle.lt_definitions.specs.Items.{Item, def_item, typedef_item, Context, empty, with_item, with_typedef, context_of, definition_label, definition_statement, new_type, rep_label, rep_inverse_label, abs_inverse_label, rep_statement, rep_inverse_statement, abs_inverse_statement, raw_type}
 use Rattle.lt_definitions.specs.Theory.{refusal, AreValid, IsPlainTheory}
-use Rattle.lt_definitions.specs.Extensions.{IsStatement, IsTypedef, IsDefinition}
 use Rattle.lt_definitions.proofs.SameNames.{false-name, longer-differs}
 use Rattle.lt_nameless.specs.Nameless.{nameless, IsWhole}
 use Rattle.lt_nameless.proofs.BindingLemmas.{if-true, if-false}

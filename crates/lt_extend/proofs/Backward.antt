@@ -1,5 +1,5 @@
 -- A theory that goes back to its first items.
-use Rattle.std.proofs.Common.{◌≡◌, ℕ, zero, suc, List, [], ◌∷◌, ◌++◌, length, map, take, drop, Option, None, Some, refl, sym, ◌∙◌, ap, subst}
+use Rattle.std.proofs.Common.{◌≡◌, ℕ, zero, suc, List, [], ◌∷◌, length, map, take, drop, Option, None, Some, refl, sym, ◌∙◌, ap, subst}
 use Rattle.std.proofs.lemmas.List.{length-map}
 use Rattle.lt_definitions.specs.Types.{Chars, TypeTree}
 use Rattle.lt_definitions.specs.Terms.{TermTree}
@@ -11,7 +11,7 @@ use Rattle.lt_nameless.specs.Nameless.{Nameless, nameless}
 use Rattle.lt_nameless.specs.NamelessRules.{nameless_statements}
 use Rattle.lt_hol.specs.declared.item.Item.{Item}
 use Rattle.lt_store.specs.Trees.{tree_at}
-use Rattle.lt_kernel.specs.State.{State, statements}
+use Rattle.lt_kernel.specs.State.{State}
 use Rattle.lt_extend.specs.declared.drafts.Mark.{Mark}
 use Rattle.lt_extend.specs.Standing.{StandsFor, GoesOn}
 use Rattle.lt_extend.specs.Drafts.{IsMark, IsMarkOf, before}

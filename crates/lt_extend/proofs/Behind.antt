@@ -4,13 +4,11 @@ use Rattle.std.proofs.Math.Seq.{take-append_seam}
 use Rattle.lt_definitions.specs.Types.{Chars, TypeTree}
 use Rattle.lt_definitions.specs.Terms.{TermTree}
 use Rattle.lt_definitions.specs.Typing.{Signature}
-use Rattle.lt_nameless.specs.Nameless.{Nameless}
-use Rattle.lt_hol.specs.Faults.{with_type, with_const, cut}
+use Rattle.lt_hol.specs.Faults.{with_type, with_const}
 use Rattle.lt_store.specs.Trees.{tree_at}
 use Rattle.lt_store.proofs.TreeLemmas.{extends_same, extends_on}
-use Rattle.lt_kernel.specs.declared.sequent.Step.{Step}
-use Rattle.lt_kernel.specs.Sequents.{statements_at, sequents_at}
-use Rattle.lt_kernel.specs.State.{State, statements, sequents, Stays, Keeps}
+use Rattle.lt_kernel.specs.Sequents.{statements_at}
+use Rattle.lt_kernel.specs.State.{State, Stays, Keeps}
 use Rattle.lt_extend.specs.declared.drafts.Mark.{Mark}
 use Rattle.lt_extend.specs.Standing.{GoesOn, IsBehind}
 use Rattle.lt_extend.specs.Drafts.{IsMark, before}

@@ -1,8 +1,7 @@
 -- How many types, constants and statements items add.
-use Rattle.std.proofs.Common.{◌≡◌, ℕ, zero, suc, slice_get, Some, ◌+◌, ◌≤◌, ◌<◌, List, [], ◌∷◌, ◌++◌, length, map, take, drop, None, Ok, refl, sym, ◌∙◌, ap, subst, arith, length-append}
+use Rattle.std.proofs.Common.{◌≡◌, ℕ, zero, suc, slice_get, Some, ◌+◌, ◌≤◌, List, [], ◌∷◌, ◌++◌, length, take, drop, None, refl, sym, ◌∙◌, ap, subst, arith, length-append}
 use Rattle.std.proofs.lemmas.List.{map-append, take-append-drop, drop_all}
-use Rattle.lt_definitions.specs.Types.{TypeTree, bool, fun}
-use Rattle.lt_definitions.specs.Typing.{typed}
+use Rattle.lt_definitions.specs.Types.{bool, fun}
 use Rattle.lt_definitions.specs.Items.{Item, type_item, const_item, axiom_item, def_item, typedef_item, lemma_item, Context, empty, with_item, context_of}
 use Rattle.lt_definitions.specs.Theory.{refusal, AreValid, IsPlainTheory}
 use Rattle.lt_nameless.proofs.Typings.{has-typed}
@@ -11,7 +10,7 @@ use Rattle.lt_hol.specs.declared.item.Item.{Item as Entry}
 use Rattle.lt_hol.specs.Items.{item_of}
 use Rattle.lt_extend.specs.Theories.{items_of}
 use Rattle.lt_extend.specs.declared.drafts.Mark.{Mark}
-use Rattle.lt_extend.specs.Drafts.{IsMark, IsMarkOf, Additions, additions, IsAtLeast, IsWithout}
+use Rattle.lt_extend.specs.Drafts.{IsMarkOf, Additions, additions, IsAtLeast, IsWithout}
 use Rattle.lt_extend.proofs.Accepted.{typedef-adds}
 
 -- The second context has so many more.

@@ -1,5 +1,5 @@
 -- What is known behind what was declared and stated of an item.
-use Rattle.std.proofs.Common.{◌≡◌, ℕ, ◌<◌, List, [], ◌∷◌, ◌++◌, length, false, None, Result, Ok, Err, OnOk, OnErr, refl, sym, ◌∙◌, ap, subst, append_assoc}
+use Rattle.std.proofs.Common.{◌≡◌, ℕ, List, [], ◌∷◌, ◌++◌, length, false, None, Result, Ok, Err, OnOk, OnErr, sym, ◌∙◌, ap, subst, append_assoc}
 use Rattle.lt_definitions.specs.Types.{Chars, same_name, TypeTree, found, bool, fun}
 use Rattle.lt_definitions.specs.Terms.{TermTree}
 use Rattle.lt_definitions.specs.Typing.{Signature, type_fault, typed}
@@ -9,7 +9,7 @@ use Rattle.lt_types.specs.declared.memory.Memory.{Memory}
 use Rattle.lt_hol.specs.Faults.{with_type, with_const}
 use Rattle.lt_store.specs.Trees.{tree_at}
 use Rattle.lt_kernel.specs.State.{State, statements, Keeps}
-use Rattle.lt_extend.specs.Standing.{StandsFor, StandsAs, GoesOn, IsBehind}
+use Rattle.lt_extend.specs.Standing.{StandsAs, GoesOn, IsBehind}
 use Rattle.lt_extend.specs.Entering.{with_rep, with_new_type, IsNewType, IsNewStatement}
 use Rattle.lt_extend.proofs.Accepted.{found-more, typedef-adds}
 use Rattle.lt_extend.proofs.Behind.{behind-same, behind-on, behind-named, behind-type, behind-const, goes-on}

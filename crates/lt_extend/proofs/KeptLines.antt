@@ -1,9 +1,9 @@
 -- Lines that a kernel has derived, read with names of binders, are a derivation over the items.
-use Rattle.std.proofs.Common.{◌≡◌, ℕ, zero, suc, ◌+◌, ◌≤◌, ◌<◌, List, [], ◌∷◌, ◌++◌, length, map, take, drop, slice_get, Bool, true, false, not, ◌&&◌, Option, Some, None, option_map, Result, Ok, Err, refl, sym, ◌∙◌, ap, subst, arith, append_assoc, append-nil}
+use Rattle.std.proofs.Common.{◌≡◌, ℕ, zero, suc, ◌≤◌, ◌<◌, List, [], ◌∷◌, ◌++◌, length, map, take, drop, slice_get, Bool, true, false, not, ◌&&◌, Option, Some, None, option_map, Result, Ok, Err, refl, sym, ◌∙◌, ap, subst, arith, append_assoc, append-nil}
 use Rattle.std.specs.Result.{IsErrAnd}
 use Rattle.std.proofs.Math.Seq.{take-append_seam}
 use Rattle.std.proofs.lemmas.List.{map-append, length-map, take-map, take-append-drop, length-take-le}
-use Rattle.std.proofs.lemmas.Option.{none-some, slice_get_within}
+use Rattle.std.proofs.lemmas.Option.{slice_get_within}
 use Rattle.lt_definitions.specs.Types.{Chars, found, TypeTree}
 use Rattle.lt_definitions.specs.Terms.{TermTree}
 use Rattle.lt_definitions.specs.Typing.{Signature, type_fault}
@@ -28,7 +28,7 @@ use Rattle.lt_kernel.specs.declared.sequent.Step.{Step}
 use Rattle.lt_kernel.specs.Derived.{IsDerived, AreDerived}
 use Rattle.lt_kernel.specs.Lines.{rule_at}
 use Rattle.lt_kernel.specs.Sequents.{sequent_at, sequents_at, statements_at}
-use Rattle.lt_kernel.specs.State.{State, sequents, statements, Keeps}
+use Rattle.lt_kernel.specs.State.{State, sequents, Keeps}
 use Rattle.lt_kernel.proofs.DerivedLines.{rule-extends}
 use Rattle.lt_conditions.specs.declared.item_fault.ItemFault.{ItemFault}
 use Rattle.lt_conditions.specs.declared.item_fault.ItemFault.TheVariants.{Memory}

@@ -3,14 +3,12 @@ use Rattle.std.proofs.Common.{◌≡◌, ℕ, List, [], ◌∷◌, ◌++◌, map
 use Rattle.std.proofs.lemmas.List.{map-append}
 use Rattle.lt_definitions.specs.Types.{Chars, TypeTree, same_name, found}
 use Rattle.lt_definitions.specs.Terms.{TermTree}
-use Rattle.lt_definitions.specs.Typing.{Signature}
 use Rattle.lt_definitions.specs.Items.{Context, with_types, with_consts, with_statements}
 use Rattle.lt_nameless.specs.Nameless.{Nameless, nameless}
-use Rattle.lt_nameless.specs.NamelessRules.{nameless_statements}
 use Rattle.lt_types.proofs.NameTables.{none-found}
 use Rattle.lt_hol.specs.Faults.{with_type, with_const}
 use Rattle.lt_store.specs.Trees.{tree_at}
-use Rattle.lt_kernel.specs.State.{State, statements, Stays}
+use Rattle.lt_kernel.specs.State.{State, Stays}
 use Rattle.lt_extend.specs.Standing.{StandsFor, StandsAs}
 use Rattle.lt_conditions.specs.Refusing.{context_at}
 

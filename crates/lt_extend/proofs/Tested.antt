@@ -8,7 +8,7 @@ use Rattle.lt_definitions.specs.Typing.{Signature, Fault, typed}
 use Rattle.lt_definitions.specs.Alpha.{is_alpha}
 use Rattle.lt_definitions.specs.Rules.{Sequent, line_at}
 use Rattle.std.specs.Result.{result_err}
-use Rattle.lt_definitions.specs.Theory.{Refusal, boolean_test, refused_where, not_proved, last_of, has_none, is_proved}
+use Rattle.lt_definitions.specs.Theory.{boolean_test, refused_where, not_proved, last_of, has_none, is_proved}
 use Rattle.lt_nameless.specs.Nameless.{nameless, NamelessSequent, nameless_sequent, IsWhole}
 use Rattle.lt_nameless.proofs.Alphas.{alpha_is_nameless, alpha_is_tested}
 use Rattle.lt_store.specs.declared.node.Node.{Node}

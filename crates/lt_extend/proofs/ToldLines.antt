@@ -1,27 +1,18 @@
 -- Lines that are told over places of shared nodes.
-use Rattle.std.proofs.Common.{◌≡◌, ℕ, ◌+◌, ◌<◌, Result, Ok, Err, IfOk, OnOk, List, [], ◌∷◌, ◌++◌, length, map, take, slice_get, get_or, true, ◌&&◌, nat_lt, Some, None, refl, sym, ◌∙◌, ap, subst, arith}
+use Rattle.std.proofs.Common.{◌≡◌, ℕ, ◌+◌, List, [], ◌∷◌, ◌++◌, map, take, slice_get, Some, refl, sym, ◌∙◌, ap, subst}
 use Rattle.std.proofs.lemmas.List.{map-append, take_more}
-use Rattle.std.proofs.lemmas.Bool.{lt-ltb, and_from}
 use Rattle.std.proofs.lemmas.Option.{slice_get_within, get_or_from_slice_get}
-use Rattle.lt_definitions.specs.Types.{Chars, TypeTree}
-use Rattle.lt_definitions.specs.Typing.{Signature, type_fault}
-use Rattle.lt_definitions.specs.Rules.{Rule, by_assume, by_weaken, by_refl, by_beta, by_eta, by_impI, by_allE, by_inst, by_select, by_ccontr}
-use Rattle.lt_definitions.specs.Terms.{TermTree}
-use Rattle.lt_nameless.specs.Nameless.{Nameless, IsWhole, nameless}
-use Rattle.lt_nameless.specs.NamelessRules.{nameless_rule, nameless_fault}
-use Rattle.lt_nameless.proofs.ClosedSteps.{term-whole}
-use Rattle.lt_terms.specs.declared.term.TermNode.{TermNode}
+use Rattle.lt_definitions.specs.Typing.{Signature}
+use Rattle.lt_definitions.specs.Rules.{Rule}
+use Rattle.lt_nameless.specs.Nameless.{Nameless}
 use Rattle.lt_hol.specs.declared.line.Line.{Line}
-use Rattle.lt_hol.specs.declared.line.Line.TheVariants.{Assume, Weaken, Refl, Beta, Eta, ImpI, AllE, Inst, Select, Ccontr}
 use Rattle.lt_hol.specs.declared.lines.Lines.{Lines}
-use Rattle.lt_hol.specs.Lines.{trees, rule_of, rules_of}
 use Rattle.lt_store.specs.declared.node.Node.{Node}
-use Rattle.lt_store.specs.Trees.{tree_at}
 use Rattle.lt_kernel.specs.declared.sequent.Step.{Step}
 use Rattle.lt_kernel.specs.Lines.{rule_at, IsGoodLine}
 use Rattle.lt_kernel.specs.Derived.{AreDerived}
 use Rattle.lt_kernel.specs.State.{State}
-use Rattle.lt_extend.specs.Telling.{rules_at, rules_in, KeepsRules, IsPlaced, IsTold, IsToldLine}
+use Rattle.lt_extend.specs.Telling.{rules_at, KeepsRules}
 
 pub kept-none : (lines : Lines) → KeepsRules lines lines
 kept-none lines = record { lines = refl; rules = refl }

@@ -1,5 +1,5 @@
 -- What can't be refused for another reason is refused for want of memory.
-use Rattle.std.proofs.Common.{◌≡◌, ℕ, is_some, true, false, None, Some, Err, refl, sym, ◌∙◌, ap}
+use Rattle.std.proofs.Common.{◌≡◌, ℕ, is_some, true, false, None, Err, refl, sym, ◌∙◌, ap}
 use Rattle.lt_definitions.specs.Types.{Chars, TypeTree, found}
 use Rattle.lt_definitions.specs.Typing.{Signature, type_fault}
 use Rattle.lt_hol.specs.Faults.{DeclaresType, DeclaresConst}

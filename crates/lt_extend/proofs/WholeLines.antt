@@ -1,16 +1,15 @@
 -- The bound names of lines have their binders, where the lines are a derivation over a valid theory.
-use Rattle.std.proofs.Common.{◌≡◌, ℕ, List, [], map, slice_get, Option, Some, None, option_map, Ok, refl, sym, ◌∙◌, ap, subst}
-use Rattle.std.specs.List.{All}
-use Rattle.std.proofs.lemmas.List.Elements.{All-nil, All-weaker, All-map, All-same, All-contains}
-use Rattle.lt_definitions.specs.Types.{Chars, bool}
+use Rattle.std.proofs.Common.{◌≡◌, List, [], map, Ok}
+use Rattle.std.proofs.lemmas.List.Elements.{All-nil, All-weaker, All-map, All-same}
+use Rattle.lt_definitions.specs.Types.{bool}
 use Rattle.lt_definitions.specs.Terms.{TermTree}
 use Rattle.lt_definitions.specs.Typing.{Signature}
-use Rattle.lt_definitions.specs.Rules.{Sequent, Rule, line_at}
+use Rattle.lt_definitions.specs.Rules.{Sequent, Rule}
 use Rattle.lt_definitions.specs.Derivations.{derived}
 use Rattle.lt_definitions.specs.Items.{Item, Context, empty, context_of}
 use Rattle.lt_definitions.specs.Theory.{IsPlainTheory}
 use Rattle.lt_nameless.specs.Booleans.{IsBoolean, IsBooleanSequent}
-use Rattle.lt_nameless.specs.Nameless.{NamelessSequent, nameless, nameless_sequent, IsWhole}
+use Rattle.lt_nameless.specs.Nameless.{nameless, nameless_sequent, IsWhole}
 use Rattle.lt_nameless.proofs.ClosedForms.{typed_is_whole}
 use Rattle.lt_nameless.proofs.Derived.{derivation_is_computed}
 use Rattle.lt_nameless.proofs.BooleanSteps.{derivations_keep_booleans, signatures_are_sound}

@@ -1,7 +1,7 @@
 -- A node whose children are taken from the places of the terms before it.
 use Rattle.std.specs.Prelude.{◌≡◌, ℕ, ◌≤◌, List, [], ◌∷◌, ◌++◌, length}
 use Rattle.lt_terms.specs.declared.term.TermNode.{TermNode}
-use Rattle.lt_terms.specs.declared.term.TermNode.TheVariants.{Free, Bound, Const, App, Lam}
+use Rattle.lt_terms.specs.declared.term.TermNode.TheVariants.{App, Lam}
 
 -- a node's children are among the places
 abbrev pub HasPlaces : List ℕ → TermNode → Type 0

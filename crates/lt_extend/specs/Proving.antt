@@ -1,5 +1,5 @@
 -- Sequents whose terms can be told, and whether one proves a statement.
-use Rattle.std.specs.Prelude.{List, Option, Some, not}
+use Rattle.std.specs.Prelude.{List, Option, not}
 use Rattle.std.specs.List.{All}
 use Rattle.lt_definitions.specs.Terms.{TermTree}
 use Rattle.lt_definitions.specs.Rules.{Sequent}

@@ -1,6 +1,6 @@
 -- What a kernel's state stands for, and what stays while an item is added.
-use Rattle.std.specs.Prelude.{◌≡◌, ℕ, List, ◌++◌, None}
-use Rattle.lt_definitions.specs.Types.{Chars, TypeTree}
+use Rattle.std.specs.Prelude.{◌≡◌, List, ◌++◌, None}
+use Rattle.lt_definitions.specs.Types.{Chars}
 use Rattle.lt_definitions.specs.Terms.{TermTree}
 use Rattle.lt_definitions.specs.Items.{Context, Item, empty, context_of}
 use Rattle.lt_definitions.specs.Theory.{refusal, IsPlainTheory}

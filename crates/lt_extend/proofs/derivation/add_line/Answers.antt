@@ -1,4 +1,4 @@
-use Rattle.std.proofs.Common.{sym, subst, Err, Result}
+use Rattle.std.proofs.Common.{sym, subst, Err}
 use Rattle.lt_hol.specs.Lines.{trees, rule_of}
 use Rattle.lt_conditions.specs.declared.item_fault.ItemFault.{ItemFault}
 use Rattle.lt_extend.specs.Deriving.{DerivesLine}

@@ -1,8 +1,8 @@
-use Rattle.std.proofs.Common.{◌≡◌, ◌+◌, length, ap, sym}
+use Rattle.std.proofs.Common.{◌+◌, length, ap, sym}
 use Rattle.lt_hol.specs.Lines.{trees, rule_of, is_within}
 use Rattle.lt_kernel.proofs.GrowingLemmas.{stays-on}
 use Rattle.lt_extend.proofs.Stands.{stands-still}
-use Rattle.lt_extend.proofs.LineOutcomes.{line-within, derived-next, derived-wrong, derived-last}
+use Rattle.lt_extend.proofs.LineOutcomes.{line-within, derived-next, derived-wrong}
 use Rattle.lt_extend.proofs.derivation.add_lines.Goals as goal
 
 pub add_line-requires-clause-within : goal.add_line-requires-clause-within

@@ -1,12 +1,10 @@
-use Rattle.std.proofs.Common.{arith, ◌≡◌, ◌∙◌, ◌++◌, ◌+◌, ◌≤◌, List, length, map, take, drop, ap, sym, subst}
-use Rattle.std.proofs.lemmas.List.{map-append, take-append-drop}
+use Rattle.std.proofs.Common.{arith, ◌+◌, List, take, drop, subst}
 use Rattle.lt_definitions.specs.Items as theory
 use Rattle.lt_definitions.specs.Items.{context_of, empty}
 use Rattle.lt_definitions.specs.Theory.{IsPlainTheory}
-use Rattle.lt_hol.specs.declared.item.Item.{Item}
 use Rattle.lt_hol.specs.Items.{item_of}
 use Rattle.lt_extend.specs.Theories.{items_of, context_behind}
-use Rattle.lt_extend.specs.Drafts.{IsMarkOf, additions}
+use Rattle.lt_extend.specs.Drafts.{IsMarkOf}
 use Rattle.lt_extend.proofs.Counts.{total, IsMarkWith, mark-first, mark-enough, mark-next, mark-last, parted-at, rest-at, none-left}
 use Rattle.lt_extend.proofs.drafts.mark_before.Goals as goal
 

@@ -1,4 +1,4 @@
-use Rattle.std.proofs.Common.{◌≡◌, ◌∙◌, ◌∷◌, [], ap, sym, subst}
+use Rattle.std.proofs.Common.{◌∙◌, [], ap, sym, subst}
 use Rattle.lt_definitions.specs.Types.{Chars, found}
 use Rattle.lt_definitions.specs.Terms.{TermTree}
 use Rattle.lt_definitions.specs.Typing.{Signature, type_fault}
@@ -6,7 +6,7 @@ use Rattle.lt_definitions.specs.Items.{empty, context_of, definition_label}
 use Rattle.lt_nameless.specs.Nameless.{nameless, IsWhole}
 use Rattle.lt_kernel.specs.State.{State}
 use Rattle.lt_extend.proofs.Accepted.{new-definition}
-use Rattle.lt_extend.proofs.Behind.{behind-none, behind-same, behind-on, behind-const, goes-none}
+use Rattle.lt_extend.proofs.Behind.{behind-same, behind-on, behind-const}
 use Rattle.lt_extend.proofs.Entered.{definition-stands}
 use Rattle.lt_extend.proofs.Stands.{unknown-label}
 use Rattle.lt_extend.proofs.entering.enter_definition.Goals as goal

@@ -1,5 +1,5 @@
-use Rattle.std.proofs.Common.{◌≡◌, ◌∙◌, ap, sym}
-use Rattle.lt_definitions.specs.Types.{Chars, TypeTree, same_name}
+use Rattle.std.proofs.Common.{◌∙◌, ap}
+use Rattle.lt_definitions.specs.Types.{TypeTree, same_name}
 use Rattle.lt_definitions.specs.Items.{rep_label, rep_inverse_label, abs_inverse_label, rep_statement, rep_inverse_statement, abs_inverse_statement}
 use Rattle.lt_extend.proofs.Accepted.{inverse-other, abs-other, inverses-differ}
 use Rattle.lt_extend.proofs.Entered.{stated-as, stated-later, stated-all, front-three, behind-three}

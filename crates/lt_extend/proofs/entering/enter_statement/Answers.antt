@@ -1,8 +1,7 @@
-use Rattle.std.proofs.Common.{◌≡◌, ◌∙◌, ap, sym}
+use Rattle.std.proofs.Common.{◌∙◌, ap}
 use Rattle.lt_definitions.specs.Types.{found}
-use Rattle.lt_definitions.specs.Typing.{Signature}
-use Rattle.lt_extend.proofs.Behind.{behind-keeps, goes-none}
-use Rattle.lt_extend.proofs.Entered.{IsStoredUnder, stored-behind, stored-signature, stored-named, stored-stands}
+use Rattle.lt_extend.proofs.Behind.{behind-keeps}
+use Rattle.lt_extend.proofs.Entered.{stored-behind, stored-signature, stored-named, stored-stands}
 use Rattle.lt_extend.proofs.entering.enter_statement.Goals as goal
 
 pub enter_stored-requires-clause-new : goal.enter_stored-requires-clause-new

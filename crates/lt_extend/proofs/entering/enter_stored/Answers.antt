@@ -1,9 +1,6 @@
-use Rattle.std.proofs.Common.{◌≡◌, ◌∙◌, ◌∷◌, [], ◌++◌, ap, sym, subst, is_some, false, List}
+use Rattle.std.proofs.Common.{◌≡◌, ◌∙◌, ◌∷◌, [], ◌++◌, ap, is_some, false}
 use Rattle.lt_definitions.specs.Types.{Chars, found}
-use Rattle.lt_definitions.specs.Terms.{TermTree}
 use Rattle.lt_types.proofs.NameTables.{inserted-new}
-use Rattle.lt_extend.specs.Standing.{GoesOn}
-use Rattle.lt_extend.proofs.Behind.{goes-same, goes-none}
 use Rattle.lt_extend.proofs.Unreached.{label-memory}
 use Rattle.lt_extend.proofs.entering.enter_stored.Goals as goal
 

@@ -1,4 +1,4 @@
-use Rattle.std.proofs.Common.{ap, ◌∙◌, sym}
+use Rattle.std.proofs.Common.{ap, ◌∙◌}
 use Rattle.lt_definitions.specs.Types.{found}
 use Rattle.lt_extend.proofs.Unreached.{type-memory}
 use Rattle.lt_extend.proofs.entering.enter_type.Goals as goal

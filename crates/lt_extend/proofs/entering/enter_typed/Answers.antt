@@ -1,6 +1,5 @@
-use Rattle.std.proofs.Common.{◌≡◌, ◌∙◌, ap, sym}
+use Rattle.std.proofs.Common.{◌∙◌, ap}
 use Rattle.lt_definitions.specs.Types.{TypeTree, fun}
-use Rattle.lt_extend.proofs.Behind.{behind-same, behind-on, behind-type}
 use Rattle.lt_extend.proofs.Entered.{signature-one, signature-two, rep-new, rep-sound, abs-new, abs-sound, typed-all, typed-behind}
 use Rattle.lt_extend.proofs.entering.enter_typed.Goals as goal
 

@@ -1,4 +1,4 @@
-use Rattle.std.proofs.Common.{◌≡◌, ℕ, ◌∙◌, [], ap, sym, subst, List}
+use Rattle.std.proofs.Common.{ℕ, ◌∙◌, [], ap, sym, subst, List}
 use Rattle.lt_definitions.specs.Types.{Chars}
 use Rattle.lt_definitions.specs.Typing.{Signature, typed}
 use Rattle.lt_definitions.specs.Items.{new_type}

@@ -1,7 +1,6 @@
-use Rattle.std.proofs.Common.{◌≡◌, ◌∙◌, ap, sym, option_map}
+use Rattle.std.proofs.Common.{◌∙◌}
 use Rattle.lt_definitions.specs.Items.{empty, context_of}
 use Rattle.lt_definitions.specs.Rules.{line_at}
-use Rattle.lt_nameless.specs.Nameless.{nameless_sequent}
 use Rattle.lt_extend.proofs.KeptLines.{read-all, line-read, proves-memory}
 use Rattle.lt_extend.proofs.WholeLines.{whole-lines}
 use Rattle.lt_extend.proofs.lemmas.check_kept.Goals as goal

@@ -1,11 +1,9 @@
-use Rattle.std.proofs.Common.{◌≡◌, ◌∙◌, ap, sym, subst, Ok, Err, Option, List}
-use Rattle.lt_definitions.specs.Items.{Context, empty, context_of}
-use Rattle.lt_definitions.specs.Theory.{Refusal, proof_test}
+use Rattle.std.proofs.Common.{◌∙◌, sym, subst, Option}
+use Rattle.lt_definitions.specs.Items.{empty, context_of}
+use Rattle.lt_definitions.specs.Theory.{Refusal}
 use Rattle.lt_hol.specs.Lines.{rules_of}
-use Rattle.lt_kernel.specs.State.{State, Stays}
 use Rattle.lt_kernel.proofs.GrowingLemmas.{stays-on}
 use Rattle.lt_conditions.specs.Refusing.{Refuses}
-use Rattle.lt_extend.specs.Standing.{StandsFor}
 use Rattle.lt_extend.proofs.Committed.{cleared-stays, stays-same, stays-cleared}
 use Rattle.lt_extend.proofs.LineOutcomes.{lines-refused, done-length}
 use Rattle.lt_extend.proofs.ProvedLemmas.{proof-tested}

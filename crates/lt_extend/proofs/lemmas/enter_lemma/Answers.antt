@@ -1,4 +1,4 @@
-use Rattle.std.proofs.Common.{◌≡◌, ◌<◌, ◌∙◌, length, ap, sym, subst}
+use Rattle.std.proofs.Common.{◌<◌, ◌∙◌, length, ap, sym, subst}
 use Rattle.lt_definitions.specs.Types.{found}
 use Rattle.lt_hol.specs.declared.item.Item.TheVariants.{Lemma}
 use Rattle.lt_hol.specs.Items.{item_of}

@@ -1,4 +1,4 @@
-use Rattle.std.proofs.Common.{◌≡◌, ◌∙◌, List, Some, Option, option_map, ap, sym, subst, length}
+use Rattle.std.proofs.Common.{◌∙◌, List, Some, option_map, ap, sym, subst, length}
 use Rattle.std.specs.Option.{option_copied}
 use Rattle.lt_store.specs.declared.node.Node.{Node}
 use Rattle.lt_kernel.specs.Sequents.{sequent_at, IsWithin}

@@ -1,4 +1,3 @@
-use Rattle.std.proofs.Common.{◌≡◌}
 use Rattle.lt_extend.proofs.proving.sequent_of.Goals as goal
 
 pub terms_of-requires : goal.terms_of-requires

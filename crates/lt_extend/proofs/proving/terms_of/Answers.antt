@@ -1,5 +1,4 @@
-use Rattle.lt_store.specs.Trees.{AllBelow}
-use Rattle.std.proofs.Common.{arith, length, ◌<◌, ◌∙◌, sym}
+use Rattle.std.proofs.Common.{arith, length, ◌<◌}
 use Rattle.lt_extend.proofs.ToldSequents.{all-at, whole-at, told-next, told-all}
 use Rattle.lt_extend.proofs.proving.terms_of.Goals as goal
 

@@ -1,9 +1,7 @@
-use Rattle.std.proofs.Common.{◌∙◌, [], take, subst, sym, List}
-use Rattle.lt_definitions.specs.Terms.{TermTree}
-use Rattle.lt_terms.specs.Layout.{forest}
+use Rattle.std.proofs.Common.{subst, sym}
 use Rattle.lt_terms.proofs.LayoutLemmas.{step, whole, IsStep}
-use Rattle.lt_extend.proofs.Placed.{IsLaid, laid-first, laid-room, laid-next, laid-pushed, laid-one, laid-at}
-use Rattle.lt_extend.proofs.ToldLines.{kept-none, kept-on}
+use Rattle.lt_extend.proofs.Placed.{IsLaid, laid-room, laid-next, laid-pushed, laid-one, laid-at}
+use Rattle.lt_extend.proofs.ToldLines.{kept-on}
 use Rattle.lt_extend.proofs.telling.add_term.Goals as goal
 
 pub placed_node-requires : goal.placed_node-requires

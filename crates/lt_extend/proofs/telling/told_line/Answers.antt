@@ -1,4 +1,3 @@
-use Rattle.std.proofs.Common.{subst}
 use Rattle.lt_definitions.specs.Typing.{type_fault}
 use Rattle.lt_definitions.proofs.TypingLemmas.{both-none}
 use Rattle.lt_nameless.specs.NamelessRules.{nameless_fault}

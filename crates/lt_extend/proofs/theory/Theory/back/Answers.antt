@@ -1,4 +1,4 @@
-use Rattle.std.proofs.Common.{◌≡◌, ◌≤◌, ◌∙◌, ap, sym, subst, length, take, List}
+use Rattle.std.proofs.Common.{◌≤◌, ◌∙◌, ap, sym, subst, length, take, List}
 use Rattle.lt_hol.specs.declared.item.Item.{Item}
 use Rattle.lt_kernel.specs.State.{State}
 use Rattle.lt_extend.specs.Standing.{StandsFor}

@@ -1,4 +1,4 @@
-use Rattle.std.proofs.Common.{◌≡◌, ◌∙◌, ◌++◌, ◌∷◌, [], None, ap, sym, subst}
+use Rattle.std.proofs.Common.{◌≡◌, None, subst}
 use Rattle.lt_definitions.specs.Typing.{Signature}
 use Rattle.lt_definitions.specs.Theory.{refusal}
 use Rattle.lt_hol.specs.declared.item.Item.TheVariants.{TypeDecl}

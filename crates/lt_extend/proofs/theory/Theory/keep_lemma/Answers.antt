@@ -1,6 +1,6 @@
-use Rattle.std.proofs.Common.{◌≡◌, ◌≤◌, ◌∙◌, List, length, sym, subst, ap, None}
+use Rattle.std.proofs.Common.{◌≡◌, ◌≤◌, ◌∙◌, List, length, sym, subst, None}
 use Rattle.lt_definitions.specs.Rules.{line_at}
-use Rattle.lt_hol.specs.declared.item.Item.TheVariants.{Lemma, Axiom}
+use Rattle.lt_hol.specs.declared.item.Item.TheVariants.{Axiom}
 use Rattle.lt_hol.specs.Items.{item_of}
 use Rattle.lt_hol.specs.Lines.{rules_of}
 use Rattle.lt_kernel.specs.declared.sequent.Step.{Step}

@@ -1,4 +1,4 @@
-use Rattle.std.proofs.Common.{◌≡◌, ◌∙◌, ◌++◌, ◌∷◌, [], None, Ok, ap, sym, subst}
+use Rattle.std.proofs.Common.{◌≡◌, [], None, Ok, ap, subst}
 use Rattle.lt_definitions.specs.Types.{Chars, fun, bool}
 use Rattle.lt_definitions.specs.Typing.{Signature, typed}
 use Rattle.lt_definitions.specs.Theory.{refusal}
@@ -6,7 +6,7 @@ use Rattle.lt_hol.specs.declared.item.Item.TheVariants.{Typedef}
 use Rattle.lt_hol.specs.Items.{item_of}
 use Rattle.lt_conditions.specs.Refusing.{Refuses, context_at}
 use Rattle.lt_extend.specs.Theories.{context_behind, items_of}
-use Rattle.lt_extend.proofs.Committed.{grown, same-item, adds-refused, adds-memory, in-step-inside, held-stands, entered-by, ready}
+use Rattle.lt_extend.proofs.Committed.{grown, same-item, adds-refused, in-step-inside, held-stands, entered-by, ready}
 use Rattle.lt_extend.proofs.Entered.{typedef-labelled}
 use Rattle.lt_extend.proofs.theory.Theory.typedef.Goals as goal
 
