@@ -50,13 +50,16 @@ wrong_line (Ok done) = None
 wrong_line (Err e) = Some e
 
 -- the line has a sequent, which is that of the newest line; or it has this fault
-abbrev pub DerivesLine : Context → List Sequent → Rule TermTree → ℕ → State → Result (Unit {0}) ItemFault → Type 0
+abbrev pub DerivesLine : Context → List Sequent → Rule TermTree → ℕ → State
+    → Result (Unit {0}) ItemFault
+    → Type 0
 DerivesLine ctx done rule n new (Ok _) =
     (s : Sequent) × (outcome_of ctx done rule ≡ Ok s) × HasSequents new (done ++ s ∷ [])
 DerivesLine ctx done rule n new (Err e) = RefusesLine (at_number n (outcome_of ctx done rule)) e
 
 -- the lines have sequents, which are those of the kernel's lines; or one has this fault
-abbrev pub DerivesLines : Context → List (Rule TermTree) → State → Result (Unit {0}) ItemFault → Type 0
+abbrev pub DerivesLines : Context → List (Rule TermTree) → State → Result (Unit {0}) ItemFault
+    → Type 0
 DerivesLines ctx rules new (Ok _) = (done : List Sequent)
     × (derived ctx.signature ctx.statements [] rules ≡ Ok done) × HasSequents new done
 DerivesLines ctx rules new (Err e) =

@@ -18,7 +18,8 @@ with_new_type n params raw a b sig =
     with_const a (fun raw (new_type n params)) (with_rep n params raw b sig)
 
 -- The names are new, and the types of the constants have no fault once the type is there.
-pub record IsNewType (sig : Signature) (n : Chars) (params : List Chars) (raw : TypeTree) (a b : Chars) : Type 0 where
+pub record IsNewType (sig : Signature) (n : Chars) (params : List Chars) (raw : TypeTree)
+    (a b : Chars) : Type 0 where
   pub type : found n sig.types ≡ None
   pub rep : found b sig.consts ≡ None
   pub abs : found a (with_rep n params raw b sig).consts ≡ None

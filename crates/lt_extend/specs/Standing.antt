@@ -20,7 +20,8 @@ pub record StandsAs (ctx : Context) (s : State) (kept : List (Chars × TermTree)
   pub statements : kept ≡ ctx.statements
 
 -- A valid item may be added behind these.
-pub record IsReady (items : List Item) (s : State) (kept : List (Chars × TermTree)) (item : Item) : Type 0 where
+pub record IsReady (items : List Item) (s : State) (kept : List (Chars × TermTree))
+    (item : Item) : Type 0 where
   pub valid : IsPlainTheory items
   pub stands : StandsAs (context_of empty items) s kept
   pub accepted : refusal (context_of empty items) item ≡ None
@@ -29,7 +30,8 @@ pub record IsReady (items : List Item) (s : State) (kept : List (Chars × TermTr
 abbrev pub GoesOn : {A : Type 0} → List A → List A → Type 0
 GoesOn {A} old new = (more : List A) × (new ≡ old ++ more)
 
--- Each id stands for what it stood for, what was declared and stated stays, and more may follow; the lines are the same.
+-- Each id stands for what it stood for, what was declared and stated stays, and more may follow;
+-- the lines are the same.
 pub record IsBehind (old new : State) : Type 0 where
   pub nodes : Extends old.nodes new.nodes
   pub types : GoesOn old.signature.types new.signature.types

@@ -25,7 +25,8 @@ StoresTerm sig nodes t (Ok id) = IsStored sig nodes t id
 StoresTerm sig nodes t (Err e) = Finds (term_fault sig t) e
 
 -- The line's terms are ids; it stands for a rule whose types and terms have no fault.
-pub record IsStoredLine (sig : Signature) (nodes : List Node) (rule : Rule TermTree) (line : Line) : Type 0 where
+pub record IsStoredLine (sig : Signature) (nodes : List Node) (rule : Rule TermTree)
+    (line : Line) : Type 0 where
   pub good : IsGoodLine sig nodes line
   pub is : rule_at nodes line ≡ nameless_rule rule
   pub typed : rule_fault sig (term_fault sig) rule ≡ None

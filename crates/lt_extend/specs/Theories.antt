@@ -42,7 +42,8 @@ pub record IsHeld (items : List Item) (kept : List (Chars × TermTree)) : Type 0
   pub valid : IsPlainTheory (items_of items)
   pub statements : kept ≡ (context_behind items).statements
 
--- The item is valid over those before it, and now it is the last one. Each id stands for what it stood for.
+-- The item is valid over those before it, and now it is the last one. Each id stands for what it
+-- stood for.
 pub record IsAdded (old : Holding) (item : Item) (new : Holding) : Type 0 where
   pub accepted : refusal (context_behind old.items) (item_of item) ≡ None
   pub items : new.items ≡ old.items ++ item ∷ []
@@ -54,7 +55,8 @@ pub record KeepsLines (old new : State) : Type 0 where
   pub steps : new.steps ≡ old.steps
   pub sequents : sequents new ≡ sequents old
 
--- The items are the same, each id stands for what it stood for, and the same is declared and stated. The lines may be dropped.
+-- The items are the same, each id stands for what it stood for, and the same is declared and
+-- stated. The lines may be dropped.
 pub record IsUnchanged (old new : Holding) : Type 0 where
   pub items : new.items ≡ old.items
   pub proof : Stays old.proof new.proof
@@ -76,7 +78,8 @@ abbrev pub kept_refusal : Context → Chars → TermTree → Option Sequent → 
 kept_refusal ctx l t last = first_of (statement_test ctx t ∷ new_name ctx.statements l
     ∷ closed_test t ∷ unproved t last ∷ [])
 
--- The sequent of the line with a number, with some names of binders; none where there is no such line.
+-- The sequent of the line with a number, with some names of binders; none where there is no such
+-- line.
 abbrev pub IsLine : State → ℕ → Option Sequent → Type 0
 IsLine s n last = option_map nameless_sequent last ≡ line_at (sequents s) n
 

@@ -114,8 +114,8 @@ impl<S: TermStore> Theory<S> {
         )
     }
 
-    /// Adds an axiom: what is wrong with its statement, `NotBool`, `Duplicate` where a statement has
-    /// the label, `OpenTerm`.
+    /// Adds an axiom: what is wrong with its statement, `NotBool`, `Duplicate` where a statement
+    /// has the label, `OpenTerm`.
     pub fn add_axiom(
         &mut self,
         alloc: Global,
@@ -243,8 +243,8 @@ impl<S: TermStore> Theory<S> {
         )
     }
 
-    /// Adds a lemma: the refusals of an axiom, then that of its first line that has one, `NotProved`
-    /// with the last sequent. The lines that were there are dropped.
+    /// Adds a lemma: the refusals of an axiom, then that of its first line that has one,
+    /// `NotProved` with the last sequent. The lines that were there are dropped.
     pub fn add_lemma(
         &mut self,
         alloc: Global,
@@ -278,8 +278,8 @@ impl<S: TermStore> Theory<S> {
     }
 
     /// Adds the lemma whose lines are those of the kernel up to the one with a number: the refusals
-    /// of an axiom, then `NotProved` with the sequent of that line, none where there is no such line.
-    /// The kernel's lines are dropped.
+    /// of an axiom, then `NotProved` with the sequent of that line, none where there is no such
+    /// line. The kernel's lines are dropped.
     ///
     /// It takes time linear in the terms of these lines, as trees.
     pub fn keep_lemma(
@@ -342,7 +342,8 @@ impl<S: TermStore> Theory<S> {
 
     /// The statement of a label; None where no statement has it.
     pub fn statement(&self, label: &Name) -> Option<&Term>
-        ensures { option_copied result ≡ found label.now (context_behind self.now.items).statements }
+        ensures { option_copied result
+            ≡ found label.now (context_behind self.now.items).statements }
     {
         self.statements.get(label)
     }

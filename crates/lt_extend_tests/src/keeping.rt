@@ -11,11 +11,7 @@ use std::alloc::Global;
 use std::test::Fail;
 
 /// Derives a named statement.
-fn derive(
-    th: &mut Theory<PlainStore>,
-    alloc: Global,
-    label: Name,
-) -> Result<usize, RuleFault>
+fn derive(th: &mut Theory<PlainStore>, alloc: Global, label: Name) -> Result<usize, RuleFault>
     requires { IsInStep th.old }
     ensures { IsInStep th.new }
 {

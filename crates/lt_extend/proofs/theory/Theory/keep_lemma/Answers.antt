@@ -65,9 +65,9 @@ pub returns-clause-keeps : goal.returns-clause-keeps
 returns-clause-keeps g c =
     let k = c.in-Ok-check_kept.ensures in
     kept-added c.self.inside.items c.self.inside.proof c.check_kept.new.proof c.args.self.now _ c.args.label c.args.statement c.args.line k.proves.0 c.in_ok-lines.lines c.enter_lemma.result c.self.view_is k.keeps.stays
-    k.proves.1 (c.in_ok-lines.ensures ∙ rules-kept c.self.inside.proof c.check_kept.new.proof c.args.line c.steps-lines.ensures.derived k.keeps) 
+    k.proves.1 (c.in_ok-lines.ensures ∙ rules-kept c.self.inside.proof c.check_kept.new.proof c.args.line c.steps-lines.ensures.derived k.keeps)
     (lemma-accepted (context_behind c.self.inside.items) c.args.label c.args.statement (rules_of c.in_ok-lines.lines.nodes c.in_ok-lines.lines.lines)
-          (accepted-here c.self.inside.items c.self.inside.proof c.self.inside.statements.entries (item_of (Axiom c.args.label c.args.statement)) c.self.invariant
-          (in-step-inside c.self.inside.items c.self.inside.proof c.args.self.now c.self.view_is c.requires) (subst (λ (sig : Signature). refusal (context_at sig c.self.inside.statements.entries) (item_of (Axiom c.args.label c.args.statement)) ≡ None) c.signature-sig.ensures c.in-Ok.ensures))
-          (kept-proof (context_behind c.self.inside.items) c.self.inside.proof c.args.line c.args.statement k.proves.0 (rules_of c.in_ok-lines.lines.nodes c.in_ok-lines.lines.lines) (in-step-inside c.self.inside.items c.self.inside.proof c.args.self.now c.self.view_is c.requires) c.steps-lines.ensures.derived
-          (c.in_ok-lines.ensures ∙ rules-kept c.self.inside.proof c.check_kept.new.proof c.args.line c.steps-lines.ensures.derived k.keeps) k.proves.1 k.proves.2)) c.enter_lemma.ensures.adds
+    (accepted-here c.self.inside.items c.self.inside.proof c.self.inside.statements.entries (item_of (Axiom c.args.label c.args.statement)) c.self.invariant
+    (in-step-inside c.self.inside.items c.self.inside.proof c.args.self.now c.self.view_is c.requires) (subst (λ (sig : Signature). refusal (context_at sig c.self.inside.statements.entries) (item_of (Axiom c.args.label c.args.statement)) ≡ None) c.signature-sig.ensures c.in-Ok.ensures))
+    (kept-proof (context_behind c.self.inside.items) c.self.inside.proof c.args.line c.args.statement k.proves.0 (rules_of c.in_ok-lines.lines.nodes c.in_ok-lines.lines.lines) (in-step-inside c.self.inside.items c.self.inside.proof c.args.self.now c.self.view_is c.requires) c.steps-lines.ensures.derived
+    (c.in_ok-lines.ensures ∙ rules-kept c.self.inside.proof c.check_kept.new.proof c.args.line c.steps-lines.ensures.derived k.keeps) k.proves.1 k.proves.2)) c.enter_lemma.ensures.adds
