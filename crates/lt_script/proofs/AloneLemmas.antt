@@ -27,9 +27,28 @@ use Rattle.lt_script.specs.Machine.{Move, under, pass, step, or_pass, State, sta
 use Rattle.lt_script.specs.Promises.{as_wrong}
 use Rattle.lt_script.specs.Stops.{IsWaiting, Reads, Stops, StopsAt}
 use Rattle.lt_script.proofs.Taken.{first_run, takes_type, IsClosed, takes_closed}
-use Rattle.lt_script.proofs.Sound.{Language, sound, finished}
+use Rattle.lt_script.proofs.Sound.{sound, finished}
 use Rattle.lt_script.proofs.Places.{IsLed, run_behind, closing, refused, unended, wrong, ending}
 use Rattle.lt_script.proofs.ToPieces.{token_there}
+use Rattle.std.specs.Prelude.{Bool, true, false, reverse}
+use Rattle.std.proofs.lemmas.List.{reverse-reverse}
+use Rattle.lt_texts.specs.declared.lexical.Token.{Token as Placed}
+use Rattle.lt_texts.proofs.Readings.{next_found}
+use Rattle.lt_commands.specs.Making.{Made, nothing, put, put_all}
+use Rattle.lt_script.specs.Machine.{step_on, Takes}
+use Rattle.lt_script.specs.declared.symbol.Symbol.TheVariants.{Arguments}
+use Rattle.lt_definitions.specs.Terms.{TermTree}
+use Rattle.lt_grammar.specs.declared.words.Part.TheVariants.{AType, AStatement}
+use Rattle.lt_commands.specs.declared.note.Note.TheVariants.{KeepType, KeepTerm}
+use Rattle.lt_commands.specs.Making.{pop}
+use Rattle.lt_commands.proofs.Makes.{type_alone, term_alone}
+use Rattle.lt_script.specs.declared.read_error.ReadError.TheVariants.{BadHeader, BadCommand, BadByte, BadChar, Memory}
+use Rattle.lt_script.specs.Marks.{ReadsLines}
+use Rattle.lt_script.specs.Promises.{RefusesType, RefusesTerm}
+use Rattle.lt_script.specs.Stops.{IsStopped}
+use Rattle.lt_script.proofs.Spanning.{unmarked}
+use Rattle.lt_script.specs.TermsAlone.{MakesTerm, is_brackets, IsOpening, IsOver}
+use Rattle.lt_script.proofs.Comes.{Came, Comes, run-one, spans_source}
 
 -- the first lexeme is taken by the one symbol
 first-step : (x : Symbol) (w : Lexeme) (ws : List Lexeme) → pass x ≡ None → run (x ∷ []) [] (w ∷ ws) ≡ first_run (step x) (w ∷ ws)
@@ -259,3 +278,94 @@ term_stops s e (ws, at, m, spans, q, waits, n, stops) = (
   no-term ws m q waits n,
   wrong-alone BeginsWithTerm ws at (lexed at) e Term refl (no-term ws m q waits n) (λ w r v. term-wrong ws w m q waits n r v) stops,
 )
+
+-- ---- the reader's steps
+
+brackets-alone : (st : List Symbol) → is_brackets st ≡ true → st ≡ Brackets ∷ []
+brackets-alone [] e = absurd (cc e)
+brackets-alone (Brackets ∷ []) e = refl
+brackets-alone (x ∷ y ∷ st) e = absurd (cc e)
+brackets-alone (x ∷ []) e = absurd (cc e)
+
+pub over_brackets : (st : List Symbol) → is_brackets st ≡ true → reverse st ≡ Brackets ∷ []
+over_brackets st e = ap reverse (brackets-alone st e)
+
+brackets-back : (st : List Symbol) → reverse st ≡ Brackets ∷ [] → is_brackets st ≡ true
+brackets-back st e = ap is_brackets (sym (reverse-reverse st) ∙ ap reverse e)
+
+pub goes_on : (y : Bool) (st : List Symbol) (s : Left) → IsOver y st s → y ≡ false → reverse st ≡ Brackets ∷ [] → IsOpening (lexed s)
+goes_on true st s o e q = absurd (cc e)
+goes_on false st s o e q = o (brackets-back st q)
+
+pub over : (y : Bool) (st : List Symbol) (s : Left) → IsOver y st s → y ≡ true → (reverse st ≡ Brackets ∷ []) × (IsOpening (lexed s) → ⊥)
+over true st s o e = (over_brackets st o.0, o.1)
+over false st s o e = absurd (cc e)
+
+-- where an opening bracket may stand and does, nothing stops
+stops-elsewhere : (s s' : Left) (st : List Symbol) (b : List Note) (l : Lexed) (e : ReadError) (c : Came (Term ∷ []) [] s s' st b) → (st ≡ Brackets ∷ [] → IsOpening l)
+    → Stops (Term ∷ []) [] Syntax c.0 s' l e → st ≡ Brackets ∷ [] → ⊥
+stops-elsewhere s s' st b (One t) e c g k q =
+    let kind : t.kind ≡ kinds.OpenSquare = g q in
+    let clash : None ≡ Some (state («Type» ∷ Arguments ∷ []) b) =
+    sym k.1 ∙ run-one (Term ∷ []) [] c.0 (lexeme t.kind (spelling s')) st b c.2
+    ∙ (λ i. onward (step_on (q i) (lexeme (kind i) (spelling s'))) (λ m. Some (state m.pushed (m.made ++ b)))) in
+    absurd (cc clash)
+stops-elsewhere s s' st b l e c g k q = absurd (g q)
+
+pub term_stopped : (s s' : Left) (st : List Symbol) (b : List Note) (l : Lexed) (e : ReadError) (c : Came (Term ∷ []) [] s s' st b) → l ≡ lexed s' → (st ≡ Brackets ∷ [] → IsOpening (lexed s'))
+    → Stops (Term ∷ []) [] Syntax c.0 s' l e → TermFailsAt s (as_wrong e)
+term_stopped s s' st b l e c f g k =
+    let there : Stops (Term ∷ []) [] Syntax c.0 s' (lexed s') e = subst (λ (z : Lexed). Stops (Term ∷ []) [] Syntax c.0 s' z e) f k in
+    term_stops s e (c.0, s', state st b, c.1, c.2, c.3, stops-elsewhere s s' st b (lexed s') e c g there, there)
+
+pub term_refused : (s s' : Left) (st st' : List Symbol) (b b' : List Note) (t : Placed) (w : Lexeme) (y : Bool) (c : Came (Term ∷ []) [] s s' st b) → One t ≡ lexed s' → (st ≡ Brackets ∷ [] → IsOpening (lexed s'))
+    → w ≡ lexeme t.kind (spelling s') → y ≡ false → Takes y (step_on st w) st' b b' → TermFailsAt s (bad_syntax t.from)
+term_refused s s' st st' b b' t w true c f g k q m = absurd (cc q)
+term_refused s s' st st' b b' t w false c f g k q m =
+    term_stopped s s' st b (One t) (Syntax t.from) c f g (
+      refl,
+      ap (λ (z : Lexeme). run (Term ∷ []) [] (c.0 ++ z ∷ [])) (sym k) ∙ run-one (Term ∷ []) [] c.0 w st b c.2
+          ∙ ap (λ (o : Option Move). onward o (λ m. Some (state m.pushed (m.made ++ b)))) m,
+    )
+
+pub term_unended : (s s' : Left) (st : List Symbol) (b : List Note) (end : ℕ) (c : Came (Term ∷ []) [] s s' st b) → End ≡ lexed s' → (st ≡ Brackets ∷ [] → IsOpening (lexed s')) → end ≡ length s.source
+    → TermFailsAt s (bad_syntax end)
+term_unended s s' st b end c f g h =
+    term_stopped s s' st b End (Syntax end) c f g (ap Syntax (h ∙ sym (ap length (spans_source s c.0 s' c.1))))
+
+pub term_made : (s s' : Left) (b : List Note) (m : Made) → Reads (Term ∷ []) [] s b s' → m ≡ put_all b nothing → MakesTerm s s' m
+term_made s s' b m r e =
+    let t = term_reads s s' b r in
+    (t.0, t.1, e ∙ ap (λ (z : List Note). put_all z nothing) t.2)
+
+clear-there : (s : Left) → (IsOpening (lexed s) → ⊥) → (t : Scanned) → IsNextToken s t → t.kind ≡ kinds.OpenSquare → ⊥
+clear-there s no t n k = no (subst IsOpening (sym (next_found s t n).token) k)
+
+pub name_made : (s s' : Left) (st : List Symbol) (b : List Note) (m m' : Made) → Comes (Term ∷ []) [] s s' st b → st ≡ Brackets ∷ [] → (IsOpening (lexed s') → ⊥) → m ≡ put_all b nothing
+    → m' ≡ put NoArguments m → MakesTerm s s' m'
+name_made s s' st b m m' (ws, spans, e) q no f g =
+    let t = name_reads s s' b (ws, spans, e ∙ ap (λ (z : List Symbol). Some (state z b)) q) (clear-there s' no) in
+    (t.0, t.1, g ∙ ap (put NoArguments) f ∙ ap (λ (z : List Note). put_all z nothing) t.2)
+
+-- ---- what the reader answers
+
+pub type_read : (st : List Symbol) (s s' : Left) (b : List Note) (places : List ℕ) (m : Made) (o : Option TypeTree) → st ≡ «Type» ∷ [] → ReadsLines st [] s b places s' → m ≡ put_all b nothing
+    → o ≡ (pop AType (put KeepType m)).0 → (ty : TypeTree) × IsTypeAt s ty s' × (o ≡ Some ty)
+type_read st s s' b places m o e r f g =
+    let t = type_reads s s' b (unmarked («Type» ∷ []) [] b s s' places (subst (λ (z : List Symbol). ReadsLines z [] s b places s') e r)) in
+    (t.0, t.1, g ∙ ap (λ (z : Made). (pop AType (put KeepType z)).0) (f ∙ ap (λ (z : List Note). put_all z nothing) t.2) ∙ type_alone t.0)
+
+type-error : (s : Left) (e : ReadError) → IsStopped («Type» ∷ []) [] Syntax s e → RefusesType s e
+type-error s Memory h = tt
+type-error s (BadHeader n) h = type_stops s (BadHeader n) h
+type-error s (BadCommand n) h = type_stops s (BadCommand n) h
+type-error s (Syntax n) h = type_stops s (Syntax n) h
+type-error s (BadByte n) h = type_stops s (BadByte n) h
+type-error s (BadChar n) h = type_stops s (BadChar n) h
+
+pub type_refused : (st : List Symbol) (s : Left) (e : ReadError) → st ≡ «Type» ∷ [] → IsStopped st [] Syntax s e → RefusesType s e
+type_refused st s e q h = type-error s e (subst (λ (z : List Symbol). IsStopped z [] Syntax s e) q h)
+
+pub term_read : (s s' : Left) (m : Made) (o : Option TermTree) → MakesTerm s s' m → o ≡ (pop AStatement (put KeepTerm m)).0
+    → (x : TermText) × IsTermAt s (term_of_text x) s' × (o ≡ Some (term_of_text x))
+term_read s s' m o (x, t, e) g = (x, t, g ∙ ap (λ (z : Made). (pop AStatement (put KeepTerm z)).0) e ∙ term_alone x)

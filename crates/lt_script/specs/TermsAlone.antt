@@ -30,3 +30,8 @@ IsOpening l = ⊥
 abbrev pub StandsOpen : Left → Bool → Type 0
 StandsOpen s true = IsOpening (lexed s)
 StandsOpen s false = IsOpening (lexed s) → ⊥
+
+-- Whether a term ends where this is expected: nothing but type arguments may follow, and none do.
+abbrev pub IsOver : Bool → List Symbol → Left → Type 0
+IsOver true stack s = (is_brackets stack ≡ true) × (IsOpening (lexed s) → ⊥)
+IsOver false stack s = is_brackets stack ≡ true → IsOpening (lexed s)

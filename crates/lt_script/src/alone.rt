@@ -1,7 +1,7 @@
 //! Reads a type or a term alone.
 ghost use Rattle.std.specs.Prelude.{◌≡◌, length, IfOk, IfErr};
 ghost use Rattle.lt_texts.specs.WrongPlaces.{IsTypeAt, IsTermAt};
-ghost use Rattle.lt_script.specs.TermsAlone.{MakesTerm, is_brackets, StandsOpen};
+ghost use Rattle.lt_script.specs.TermsAlone.{MakesTerm, is_brackets, StandsOpen, IsOver};
 ghost use Rattle.lt_script.specs.Promises.{RefusesType, RefusesTerm};
 ghost use Rattle.lt_commands.specs.Views.{made_of};
 
@@ -92,19 +92,32 @@ fn make_term(
         if stack.is_empty() {
             return Ok(maker);
         }
-        let ends = is_brackets(&stack) && !opens_next(lexer);
-        if ends {
+        if is_over(&stack, lexer) {
             maker.put(alloc, Note::NoArguments)?;
             return Ok(maker);
         }
     }
 }
 
+/// Whether the term ends here: nothing but the type arguments of a constant may still stand there,
+/// and none do.
+fn is_over(stack: &[Symbol], lexer: &Lexer<'_>) -> bool
+    ensures { IsOver result stack.now lexer.now }
+{
+    if !is_brackets(stack) {
+        return false;
+    }
+    !opens_next(lexer)
+}
+
 /// Whether nothing but the type arguments of a constant may still stand there.
 fn is_brackets(stack: &[Symbol]) -> bool
     ensures { result ≡ is_brackets stack.now }
 {
-    stack.len() == 1 && matches!(stack[0], Symbol::Brackets)
+    match stack {
+        [Symbol::Brackets] => true,
+        _ => false,
+    }
 }
 
 /// Whether an opening square bracket stands next.
