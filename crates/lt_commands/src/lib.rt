@@ -7,6 +7,7 @@ mod maker;
 mod note;
 mod refusal;
 mod rows;
+mod sinking;
 mod term_sink;
 
 pub use command::Command;

@@ -254,10 +254,10 @@ impl Maker {
         ensures within { IsLineWithin self.old.terms.lines.nodes result }
     {
         let number = self.number();
-        let term = self.whole();
+        let place = self.place();
         let ty = self.whole_type();
         let label = self.newest_label();
-        Some(Line::Inst(label?, ty?, term?, number?))
+        Some(Line::Inst(label?, ty?, place?, number?))
     }
 
     fn tinst_line(&mut self) -> Option<Line>
