@@ -1,5 +1,6 @@
 -- One more node behind the places of terms.
-use Rattle.std.proofs.Common.{◌≡◌, ℕ, suc, ◌+◌, ◌<◌, List, [], ◌∷◌, ◌++◌, length, map, reverse, get_or, true, ◌&&◌, nat_lt, Some, refl, sym, ◌∙◌, ap, arith, length-append}
+use Rattle.std.proofs.Common.{◌≡◌, ℕ, suc, ◌+◌, ◌<◌, List, [], ◌∷◌, ◌++◌, length, map, reverse, get_or, Bool, true, false, ◌&&◌, nat_lt, Some, refl, sym, ◌∙◌, ap, arith, length-append}
+use Rattle.std.specs.Prelude.{if◌then◌else◌}
 use Rattle.std.specs.List.{list_all}
 use Rattle.std.proofs.Math.ListN.{get_or-append}
 use Rattle.std.proofs.Math.Seq.{get_or-append_seam}
@@ -117,3 +118,9 @@ terms-abstracted ns ps qs x ty b e = ap (abstracted x ty) (newest-is ns ps qs b 
 -- the newest place is one of a node
 pub newest-within : (ns : List TermNode) (ps qs : List ℕ) (p : ℕ) → are_places ns ps ≡ true → ps ≡ qs ++ p ∷ [] → are_places ns (p ∷ []) ≡ true
 newest-within ns ps qs p h e = (both-true (are_places ns qs) (are_places ns (p ∷ [])) (sym (places-append ns qs (p ∷ [])) ∙ ap (are_places ns) (sym e) ∙ h)).1
+
+-- the places with that of one more node, if there was room for it
+pub places_pushed : (ns ns' : List TermNode) (n : TermNode) (ps ps' : List ℕ) (place : ℕ) (y : Bool) → are_places ns ps ≡ true → ns' ≡ ns ++ n ∷ [] → place ≡ length ns → ps' ≡ (if y then ps ++ place ∷ [] else ps)
+    → are_places ns' ps' ≡ true
+places_pushed ns ns' n ps ps' place true h e k q = places-more ns ns' n ps ps' place h e k q
+places_pushed ns ns' n ps ps' place false h e k q = ap (are_places ns') q ∙ places-later ns ns' n ps h e

@@ -6,7 +6,8 @@ ghost use Rattle.lt_grammar.specs.declared.words.ItemWord.TheVariants as items;
 ghost use Rattle.lt_grammar.specs.declared.words.CommandWord.TheVariants as words;
 ghost use Rattle.lt_grammar.specs.declared.words.Head.TheVariants as heads;
 ghost use Rattle.lt_grammar.specs.Table.{item_row, command_row};
-ghost use Rattle.lt_commands.specs.Making.{pop, put, make_row, as_item, command_made};
+ghost use Rattle.lt_hol.specs.Lines.{rules_of};
+ghost use Rattle.lt_commands.specs.Making.{pop, put, make_row, as_item, lemma_of, command_made};
 ghost use Rattle.lt_commands.specs.Views.{made_of, command_of};
 
 use crate::command::Command;
@@ -14,8 +15,9 @@ use crate::maker::Maker;
 use crate::note::Note;
 use crate::term_sink::TermSink;
 use lt_grammar::words::{CommandWord, Head, ItemWord};
+use lt_hol::Lines;
 use lt_terms::Term;
-use lt_types::{Memory, Ty};
+use lt_types::{Memory, Name, Ty};
 use std::alloc::Global;
 
 impl Maker {
@@ -305,7 +307,7 @@ impl Maker {
         let label = maker.newest_label();
         let Maker { terms, .. } = maker;
         let TermSink { lines, .. } = terms;
-        Some(Command::Lemma(label?, statement?, lines))
+        lemma_from(statement, label, lines)
     }
 
     /// The command that begins so.
@@ -320,4 +322,12 @@ impl Maker {
             Head::Command(command) => maker.further(command),
         }
     }
+}
+
+/// The lemma of its parts, if they are there.
+fn lemma_from(statement: Option<Term>, label: Option<Name>, lines: Lines) -> Option<Command>
+    ensures { option_map command_of result
+        ≡ lemma_of statement label (rules_of lines.nodes lines.lines) }
+{
+    Some(Command::Lemma(label?, statement?, lines))
 }

@@ -132,7 +132,7 @@ pub(crate) fn read_from(
         };
         let word = word_of(alloc, words, lexer, token)?;
         if !take(alloc, &mut stack, &mut maker, &mut places, word, token.from)? {
-            return Err(wrong_at(head, token.from));
+            return Err(refused_at(head, token));
         }
         if stack.is_empty() {
             return Ok(Behind {
@@ -152,6 +152,13 @@ pub fn wrong_at(head: Head, at: usize) -> ReadError
         Head::Header => ReadError::BadHeader(at),
         _ => ReadError::Syntax(at),
     }
+}
+
+/// What a token that isn't taken behind the word of a sentence is, at its begin.
+fn refused_at(head: Head, token: Token) -> ReadError
+    ensures { result ≡ call_of head token.from }
+{
+    wrong_at(head, token.from)
 }
 
 /// The word that a token is.

@@ -23,9 +23,9 @@ returns-then-not-branch-clause-wrong c =
     let g = noted c.in_ok-take.field-0 (step_on (reverse c.words.stack.items) (meant c.in_ok-word.word)) (reverse c.take.new.stack.items) (made_of c.words.maker) (made_of c.take.new.made) c.words.invariant.0
     c.in_ok-take.ensures.takes c.words.invariant.2 in
     stops_at_token (reverse c.args.symbols.items) [] (call_of c.args.head) c.args.lexer.now c.words.lexer (reverse c.words.stack.items) (reverse c.take.new.stack.items)
-    c.words.invariant.0 g.0 c.in-Token.token (meant c.in_ok-word.word) c.in_ok-take.field-0 c.wrong_at-then-not-branch.result
+    c.words.invariant.0 g.0 c.in-Token.token (meant c.in_ok-word.word) c.in_ok-take.field-0 c.refused_at.result
     c.words.invariant.1 c.in-Token.ensures.token (c.in_ok-word.ensures ∙ ap (lexeme c.in-Token.token.kind) c.in-Token.ensures.read.text)
-    c.if-not-branch.true g.1 c.wrong_at-then-not-branch.ensures
+    c.if-not-branch.true g.1 c.refused_at.ensures
 
 pub returns-then-is_empty-clause-read : goal.returns-then-is_empty-clause-read
 returns-then-is_empty-clause-read c =
