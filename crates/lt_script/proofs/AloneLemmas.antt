@@ -93,7 +93,7 @@ type-viable : (ws : List Lexeme) (m : State) → run («Type» ∷ []) [] ws ≡
 type-viable ws m e =
     let c = closing m.stack m.made in
     let l = sound («Type» ∷ []) [] (ws ++ c.0) c.1 (ap finished (run_behind («Type» ∷ []) [] ws c.0 m e) ∙ c.2) in
-    (c.0, l.1.0, l.0, l.1.1)
+    (c.0, (l.1.0, l.0, l.1.1))
 
 no-type : (ws : List Lexeme) (m : State) → run («Type» ∷ []) [] ws ≡ Some m → IsWaiting m.stack → BeginsWithType ws → ⊥
 no-type [] m e g (ty, rest, f) = let p = type-first ty rest in let clash : [] ≡ p.0 ∷ p.1 = f ∙ p.2 in absurd (cc clash)
@@ -163,11 +163,11 @@ ends-nowhere (free x ty) = tt
 ends-nowhere (lambda x ty t) = tt
 ends-nowhere (applied f a more) = tt
 
-stack-of : Option State → List Symbol
+abbrev stack-of : Option State → List Symbol
 stack-of None = []
 stack-of (Some m) = m.stack
 
-notes-of : Option State → List Note
+abbrev notes-of : Option State → List Note
 notes-of None = []
 notes-of (Some m) = m.made
 
@@ -209,7 +209,7 @@ term-viable : (ws : List Lexeme) (m : State) → run (Term ∷ []) [] ws ≡ Som
 term-viable ws m e =
     let c = closing m.stack m.made in
     let l = sound (Term ∷ []) [] (ws ++ c.0) c.1 (ap finished (run_behind (Term ∷ []) [] ws c.0 m e) ∙ c.2) in
-    (c.0, l.1.0, [], l.1.1 ∙ ap (term_lexemes l.1.0) l.2, ends-nowhere l.1.0)
+    (c.0, (l.1.0, [], l.1.1 ∙ ap (term_lexemes l.1.0) l.2, ends-nowhere l.1.0))
 
 -- behind a name alone nothing else is taken
 name-stops : (c : Chars) (rest : List Lexeme) (m : State) → run (Term ∷ []) [] (a_name c ∷ rest) ≡ Some m → EndsThere (word c []) rest → (rest ≡ []) × (m.stack ≡ Brackets ∷ [])
@@ -229,6 +229,11 @@ no-term ws m e g n (x, rest, f, k) = by (ends x)
     by (inl c) = subst IsWaiting (closed-stops x rest m c (sym (ap (run (Term ∷ []) []) f) ∙ e)) g
     by (inr (c, q)) =
         n (name-stops c rest m (sym (ap (run (Term ∷ []) []) (f ∙ ap (λ (y : TermText). term_lexemes y rest) q)) ∙ e) (subst (λ (y : TermText). EndsThere y rest) q k)).1
+
+-- only the first lexeme counts
+first-alone : (c : Chars) (r : Lexeme) (us vs : List Lexeme) → EndsThere (word c []) (r ∷ us) → EndsThere (word c []) (r ∷ vs)
+first-alone c (a_sign kinds.OpenSquare) us vs k = absurd k
+first-alone c r us vs k = tt
 
 term-wrong : (ws : List Lexeme) (w : Lexeme) (m : State) → run (Term ∷ []) [] ws ≡ Some m → IsWaiting m.stack → (m.stack ≡ Brackets ∷ [] → ⊥)
     → run (Term ∷ []) [] (ws ++ w ∷ []) ≡ None → IsViable BeginsWithTerm (ws ++ w ∷ []) → ⊥
@@ -263,11 +268,6 @@ term-wrong ws w m e g n f (more, x, rest, h, k) = by ws e f h (ends x)
         let none = stops.0 in
         absurd (cc none)
 
-    -- only the first lexeme counts
-    first-alone : (c : Chars) (r : Lexeme) (us vs : List Lexeme) → EndsThere (word c []) (r ∷ us) → EndsThere (word c []) (r ∷ vs)
-    first-alone c (a_sign kinds.OpenSquare) us vs k = absurd k
-    first-alone c r us vs k = tt
-
 pub term_stops : (s : Left) (e : ReadError) → ((ws : List Lexeme) × (at : Left) × (m : State) × Spans s ws at × (run (Term ∷ []) [] ws ≡ Some m) × IsWaiting m.stack × (m.stack ≡ Brackets ∷ [] → ⊥)
     × Stops (Term ∷ []) [] Syntax ws at (lexed at) e) → TermFailsAt s (as_wrong e)
 term_stops s e (ws, at, m, spans, q, waits, n, stops) = (
@@ -284,8 +284,8 @@ term_stops s e (ws, at, m, spans, q, waits, n, stops) = (
 brackets-alone : (st : List Symbol) → is_brackets st ≡ true → st ≡ Brackets ∷ []
 brackets-alone [] e = absurd (cc e)
 brackets-alone (Brackets ∷ []) e = refl
-brackets-alone (x ∷ y ∷ st) e = absurd (cc e)
-brackets-alone (x ∷ []) e = absurd (cc e)
+brackets-alone (Brackets ∷ y ∷ st) e = absurd (cc e)
+brackets-alone (x ∷ st) e = absurd (cc e)
 
 pub over_brackets : (st : List Symbol) → is_brackets st ≡ true → reverse st ≡ Brackets ∷ []
 over_brackets st e = ap reverse (brackets-alone st e)
@@ -339,15 +339,18 @@ term_made s s' b m r e =
     (t.0, t.1, e ∙ ap (λ (z : List Note). put_all z nothing) t.2)
 
 clear-there : (s : Left) → (IsOpening (lexed s) → ⊥) → (t : Scanned) → IsNextToken s t → t.kind ≡ kinds.OpenSquare → ⊥
-clear-there s no t n k = no (subst IsOpening (sym (next_found s t n).token) k)
+clear-there s clear t n k = clear (subst IsOpening (sym (next_found s t n).token) k)
 
 pub name_made : (s s' : Left) (st : List Symbol) (b : List Note) (m m' : Made) → Comes (Term ∷ []) [] s s' st b → st ≡ Brackets ∷ [] → (IsOpening (lexed s') → ⊥) → m ≡ put_all b nothing
     → m' ≡ put NoArguments m → MakesTerm s s' m'
-name_made s s' st b m m' (ws, spans, e) q no f g =
-    let t = name_reads s s' b (ws, spans, e ∙ ap (λ (z : List Symbol). Some (state z b)) q) (clear-there s' no) in
+name_made s s' st b m m' (ws, spans, e) q clear f g =
+    let t = name_reads s s' b (ws, spans, e ∙ ap (λ (z : List Symbol). Some (state z b)) q) (clear-there s' clear) in
     (t.0, t.1, g ∙ ap (put NoArguments) f ∙ ap (λ (z : List Note). put_all z nothing) t.2)
 
 -- ---- what the reader answers
+
+pub one_pushed : (x : Symbol) (st st' : List Symbol) → st ≡ [] → st' ≡ st ++ x ∷ [] → reverse st' ≡ x ∷ []
+one_pushed x st st' e f = ap reverse (f ∙ ap (λ (z : List Symbol). z ++ x ∷ []) e)
 
 pub type_read : (st : List Symbol) (s s' : Left) (b : List Note) (places : List ℕ) (m : Made) (o : Option TypeTree) → st ≡ «Type» ∷ [] → ReadsLines st [] s b places s' → m ≡ put_all b nothing
     → o ≡ (pop AType (put KeepType m)).0 → (ty : TypeTree) × IsTypeAt s ty s' × (o ≡ Some ty)

@@ -101,8 +101,8 @@ fn make_term(
 
 /// Whether the term ends here: nothing but the type arguments of a constant may still stand there,
 /// and none do.
-fn is_over(stack: &[Symbol], lexer: &Lexer<'_>) -> bool
-    ensures { IsOver result stack.now lexer.now }
+fn is_over(stack: &Vec<Symbol>, lexer: &Lexer<'_>) -> bool
+    ensures { IsOver result stack.now.items lexer.now }
 {
     if !is_brackets(stack) {
         return false;

@@ -17,7 +17,7 @@ pub struct KnownWords {
 }
 
 /// Where the search for a word ends: at its name, or at a slot that is free.
-#[derive(Debug)]
+#[derive(Clone, Copy, Debug)]
 pub enum Found<'a> {
     Known(&'a Name),
     Free(usize),

@@ -1,5 +1,5 @@
 -- The words of a term, up to its end or the first that is wrong.
-use Rattle.std.proofs.Common.{◌≡◌, ◌<◌, ◌∙◌, ap, sym, refl, reverse, [], ◌∷◌, List, arith}
+use Rattle.std.proofs.Common.{◌≡◌, ◌<◌, ◌∙◌, ap, sym, refl, reverse, [], ◌∷◌, ◌++◌, List, arith}
 use Rattle.std.specs.Prelude.{vec_len}
 use Rattle.std.proofs.lemmas.Bool.{eqb-true}
 use Rattle.std.proofs.lemmas.List.{length-reverse}
@@ -95,7 +95,7 @@ first st e f = let clash : Term ∷ [] ≡ Brackets ∷ [] = sym e ∙ f in absu
 
 pub words-init : goal.words-init
 words-init c =
-    let one : reverse c.push.new.self.items ≡ Term ∷ [] = ap reverse (c.in_ok-push.ensures ∙ ap (λ (z : List Symbol). z ++ Term ∷ []) c.new-stack.ensures.items) in (
+    let one : reverse c.push.new.self.items ≡ Term ∷ [] = ap reverse (c.in_ok-push.ensures.items ∙ ap (λ (z : List Symbol). z ++ Term ∷ []) c.new-stack.ensures.items) in (
       (
         [],
         came_first (Term ∷ []) [] c.args.lexer.now (reverse c.push.new.self.items) [] one refl tt,

@@ -42,7 +42,7 @@ returns-then-not-is_header-clause-shorter c =
 pub returns-then-not-is_header-clause-source : goal.returns-then-not-is_header-clause-source
 returns-then-not-is_header-clause-source c =
     let n : SaysNext (form_of c.args.opening.now c.args.allowed) c.parts.lexer c.next_head.new.lexer (Begins c.in-Begins.head c.in-Begins.from) = rw c.in-Begins.is at c.in_ok-next_head.ensures.next in
-    c.parts.invariant.end ∙ sym (ap length (read_source (expected c.args.opening.now.number c.in-Begins.head) (Begin c.in-Begins.head ∷ []) c.in-Ok.ensures.read.0 c.next_head.new.lexer c.read.new.lexer (unmarked (expected c.args.opening.now.number c.in-Begins.head) (Begin c.in-Begins.head ∷ []) c.in-Ok.ensures.read.0 c.next_head.new.lexer c.read.new.lexer c.in-Ok.behind.places.items c.in-Ok.ensures.read.1)
+    c.parts.invariant.end ∙ sym (ap length (read_source (expected c.args.opening.now.number c.in-Begins.head) [] c.in-Ok.ensures.read.0 c.next_head.new.lexer c.read.new.lexer (unmarked (expected c.args.opening.now.number c.in-Begins.head) [] c.in-Ok.ensures.read.0 c.next_head.new.lexer c.read.new.lexer c.in-Ok.behind.places.items c.in-Ok.ensures.read.1)
     ∙ begun_source (form_of c.args.opening.now c.args.allowed) c.parts.lexer c.next_head.new.lexer c.in-Begins.head c.in-Begins.from n))
 
 pub parts-smaller : goal.parts-smaller

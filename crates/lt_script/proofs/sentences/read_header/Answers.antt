@@ -35,8 +35,8 @@ returns-in-Ok-clause-header c = λ commands.
 pub returns-in-Ok-clause-source : goal.returns-in-Ok-clause-source
 returns-in-Ok-clause-source c =
     c.requires ∙ sym (ap (λ (x : Left). length x.source) c.in-Token.ensures.left ∙ ap length (after_source c.args.lexer.now))
-    ∙ sym (ap length (read_source (expected c.args.opening.now.number Header) (Begin Header ∷ []) c.in-Ok.ensures.read.0 c.next_token.new.self c.read.new.lexer
-    (unmarked (expected c.args.opening.now.number Header) (Begin Header ∷ []) c.in-Ok.ensures.read.0 c.next_token.new.self c.read.new.lexer c.in-Ok._behind.places.items c.in-Ok.ensures.read.1)))
+    ∙ sym (ap length (read_source (expected c.args.opening.now.number Header) [] c.in-Ok.ensures.read.0 c.next_token.new.self c.read.new.lexer
+    (unmarked (expected c.args.opening.now.number Header) [] c.in-Ok.ensures.read.0 c.next_token.new.self c.read.new.lexer c.in-Ok._behind.places.items c.in-Ok.ensures.read.1)))
 
 pub returns-in-Err-clause-wrong : goal.returns-in-Err-clause-wrong
 returns-in-Err-clause-wrong c = λ commands.
