@@ -237,7 +237,7 @@ first-alone c r us vs k = tt
 
 term-wrong : (ws : List Lexeme) (w : Lexeme) (m : State) → run (Term ∷ []) [] ws ≡ Some m → IsWaiting m.stack → (m.stack ≡ Brackets ∷ [] → ⊥)
     → run (Term ∷ []) [] (ws ++ w ∷ []) ≡ None → IsViable BeginsWithTerm (ws ++ w ∷ []) → ⊥
-term-wrong ws w m e g n f (more, x, rest, h, k) = by ws e f h (ends x)
+term-wrong ws w m e g n f (more, (x, rest, h, k)) = by ws e f h (ends x)
   where
     by : (ws : List Lexeme) → run (Term ∷ []) [] ws ≡ Some m → run (Term ∷ []) [] (ws ++ w ∷ []) ≡ None → (ws ++ w ∷ []) ++ more ≡ term_lexemes x rest → Ends x → ⊥
     by [] e f h (inl c) =
