@@ -2,7 +2,6 @@
 use Rattle.std.proofs.Common.{◌≡◌, ◌∙◌, ap, refl, List, [], ◌∷◌, Option}
 use Rattle.lt_definitions.specs.Types.{Chars}
 use Rattle.lt_definitions.specs.Terms.{TermTree}
-use Rattle.lt_definitions.specs.Rules.{Rule}
 use Rattle.lt_grammar.specs.declared.words.Part.TheVariants.{Label, AStatement}
 use Rattle.lt_grammar.specs.declared.words.Head.TheVariants.{Lemma}
 use Rattle.lt_commands.specs.Making.{Made, newest_label, newest_whole, pop, lemma_of, command_made}

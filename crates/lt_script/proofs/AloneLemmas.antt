@@ -1,5 +1,5 @@
 -- A type or a term alone: what the machine takes from one symbol on, and where it stops.
-use Rattle.std.proofs.Common.{◌≡◌, ℕ, ◌∙◌, ap, ap₂, sym, refl, subst, inl, inr, List, [], ◌∷◌, ◌++◌, length, Option, Some, None, append-nil, append_assoc}
+use Rattle.std.proofs.Common.{◌≡◌, ℕ, ◌∙◌, ap, ap₂, sym, refl, subst, inl, inr, List, [], ◌∷◌, ◌++◌, length, Option, Some, None, append-nil}
 use Rattle.std.specs.Prelude.{◌⊎◌}
 use Rattle.lt_texts.specs.declared.lexical.Lexed.{Lexed}
 use Rattle.lt_texts.specs.declared.lexical.Lexed.TheVariants.{Token as One, End, BadByte as NoText, BadChar as NoToken}
@@ -13,7 +13,7 @@ use Rattle.lt_texts.specs.declared.lexical.TokenKind.TheVariants as kinds
 use Rattle.lt_texts.specs.Lexemes.{a_name, a_sign}
 use Rattle.lt_definitions.specs.Types.{Chars}
 use Rattle.lt_texts.specs.Writing.{type_lexemes, TermText, word, bound, free, lambda, applied, term_of_text, term_lexemes}
-use Rattle.lt_texts.specs.WrongPlaces.{Wrong, Language, bad_syntax, IsViable, IsWrong, BeginsWithType, IsTypeAt, TypeFailsAt, EndsThere, EndsAt, BeginsWithTerm, IsTermAt, TermFailsAt}
+use Rattle.lt_texts.specs.WrongPlaces.{Language, bad_syntax, IsViable, IsWrong, BeginsWithType, IsTypeAt, TypeFailsAt, EndsThere, EndsAt, BeginsWithTerm, IsTermAt, TermFailsAt}
 use Rattle.lt_texts.proofs.Readings.{lexed_shown, spans_reads}
 use Rattle.lt_grammar.proofs.Splits.{type_splits, term_splits}
 use Rattle.lt_commands.specs.declared.note.Note.{Note}
@@ -28,7 +28,7 @@ use Rattle.lt_script.specs.Promises.{as_wrong}
 use Rattle.lt_script.specs.Stops.{IsWaiting, Reads, Stops, StopsAt}
 use Rattle.lt_script.proofs.Taken.{first_run, takes_type, IsClosed, takes_closed}
 use Rattle.lt_script.proofs.Sound.{sound, finished}
-use Rattle.lt_script.proofs.Places.{IsLed, run_behind, closing, refused, unended, wrong, ending}
+use Rattle.lt_script.proofs.Places.{IsLed, run_behind, closing, refused, wrong, ending}
 use Rattle.lt_script.proofs.ToPieces.{token_there}
 use Rattle.std.specs.Prelude.{Bool, true, false, reverse}
 use Rattle.std.proofs.lemmas.List.{reverse-reverse}
@@ -44,7 +44,7 @@ use Rattle.lt_commands.specs.Making.{pop}
 use Rattle.lt_commands.proofs.Makes.{type_alone, term_alone}
 use Rattle.lt_script.specs.declared.read_error.ReadError.TheVariants.{BadHeader, BadCommand, BadByte, BadChar, Memory}
 use Rattle.lt_script.specs.Marks.{ReadsLines}
-use Rattle.lt_script.specs.Promises.{RefusesType, RefusesTerm}
+use Rattle.lt_script.specs.Promises.{RefusesType}
 use Rattle.lt_script.specs.Stops.{IsStopped}
 use Rattle.lt_script.proofs.Spanning.{unmarked}
 use Rattle.lt_script.specs.TermsAlone.{MakesTerm, is_brackets, IsOpening, IsOver}

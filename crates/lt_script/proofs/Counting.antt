@@ -1,5 +1,5 @@
 -- No line begins within a line: its parts note none.
-use Rattle.std.proofs.Common.{◌≡◌, ℕ, suc, ◌+◌, ◌<◌, ◌≤◌, ◌∙◌, ap, sym, refl, Bool, true, false, List, [], ◌∷◌, ◌++◌, Option, Some, None, arith}
+use Rattle.std.proofs.Common.{◌≡◌, ℕ, suc, ◌+◌, ◌≤◌, ◌∙◌, ap, refl, Bool, false, List, [], ◌∷◌, ◌++◌, Option, Some, None, arith}
 use Rattle.lt_definitions.specs.Types.{Chars, TypeTree, TypeTrees, type_variable, type_constructor, no_types, type_and, row}
 use Rattle.lt_texts.specs.Texts.{Left, lexed, after}
 use Rattle.lt_texts.specs.Lexemes.{Lexeme}
@@ -11,7 +11,7 @@ use Rattle.lt_commands.specs.declared.note.Note.{Note}
 use Rattle.lt_commands.specs.declared.note.Note.TheVariants.{TypeOpen, KeepType, ConstantName, FreeName, LambdaName, Apply, Parameter, BeginLine}
 use Rattle.lt_commands.specs.Notes.{type_notes, types_notes, later_notes, arguments_notes, term_notes, terms_notes, parameters_notes, part_notes, parts_notes}
 use Rattle.lt_script.specs.declared.symbol.Symbol.{Symbol}
-use Rattle.lt_script.specs.Machine.{Move, step_on, State, state, onward, run}
+use Rattle.lt_script.specs.Machine.{Move, step_on, State, onward, run}
 use Rattle.lt_script.specs.Marks.{has_begin, begins_by, marked, token_place, stack_by, marks}
 
 -- how many lines begin by notes

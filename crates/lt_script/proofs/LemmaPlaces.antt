@@ -1,25 +1,19 @@
 -- Where a command stands, and where each line of a lemma begins.
-use Rattle.std.proofs.Common.{◌≡◌, ℕ, ◌∙◌, ap, sym, refl, subst, true, false, List, [], ◌∷◌, ◌++◌, Option, Some, None, append-nil}
+use Rattle.std.proofs.Common.{◌≡◌, ℕ, ◌∙◌, ap, sym, refl, subst, List, [], ◌∷◌, ◌++◌, Option, Some, None, append-nil}
 use Rattle.std.specs.Prelude.{map, codes}
 use Rattle.lt_texts.specs.declared.lexical.TokenKind.TheVariants as kinds
-use Rattle.lt_texts.specs.declared.lexical.Token.{Token as Placed}
-use Rattle.lt_texts.specs.declared.lexical.Lexed.{Lexed}
-use Rattle.lt_texts.specs.declared.lexical.Lexed.TheVariants.{Token as One}
 use Rattle.lt_definitions.specs.Types.{Chars}
 use Rattle.lt_definitions.specs.Terms.{TermTree}
 use Rattle.lt_definitions.specs.Rules.{Rule}
-use Rattle.lt_definitions.specs.Items.{lemma_item}
 use Rattle.lt_texts.specs.Texts.{Left, lexed, after}
 use Rattle.lt_texts.specs.Lexemes.{Lexeme, a_name, a_sign, IsNextLexeme, Spans}
-use Rattle.lt_texts.specs.Reading.{Reads}
 use Rattle.lt_texts.specs.Writing.{TermText, term_of_text}
-use Rattle.lt_texts.specs.Commands.{Command, item_command}
-use Rattle.lt_texts.specs.Pieces.{Piece, sign_piece, line_text, head_text, AreWritten, semicolon}
-use Rattle.lt_texts.specs.Forms.{Form, a_command, sentence_text}
+use Rattle.lt_texts.specs.Commands.{item_command}
+use Rattle.lt_texts.specs.Pieces.{Piece, line_text, AreWritten}
+use Rattle.lt_texts.specs.Forms.{Form, sentence_text}
 use Rattle.lt_texts.specs.WrongPlaces.{Stands}
 use Rattle.lt_texts.specs.CommandPlaces.{IsFirstPlace, LinesAt, LemmaAt, CommandAt}
 use Rattle.lt_texts.proofs.Readings.{spans_reads}
-use Rattle.lt_grammar.specs.declared.words.Part.{Part}
 use Rattle.lt_grammar.specs.declared.words.Part.TheVariants.{Fixed as Exactly}
 use Rattle.lt_grammar.specs.declared.words.Fixed.TheVariants as signs
 use Rattle.lt_grammar.specs.declared.words.RuleWord.{RuleWord}
@@ -30,12 +24,11 @@ use Rattle.lt_grammar.specs.declared.words.CommandWord.TheVariants.{Law, Corr, R
 use Rattle.lt_grammar.specs.declared.words.Head.TheVariants.{Lemma}
 use Rattle.lt_grammar.specs.Rows.{Texts, parts_lexemes}
 use Rattle.lt_grammar.specs.Table.{rule_row, item_row, lemma_parts, command_row}
-use Rattle.lt_grammar.specs.RowTexts.{row_lexemes, row_meaning, LineText, line, lines_lexemes, rule_of_text, PartText, header, item, lemma, command, text_lexemes, sentence_of}
-use Rattle.lt_grammar.specs.Words.{rule_of, rule_word}
+use Rattle.lt_grammar.specs.RowTexts.{row_lexemes, row_meaning, LineText, line, lines_lexemes, rule_of_text, item, lemma, command, text_lexemes, sentence_of}
+use Rattle.lt_grammar.specs.Words.{rule_word}
 use Rattle.lt_grammar.proofs.Distinct.{rule_found}
-use Rattle.lt_grammar.proofs.RowPieces.{lines_written, sentence_written}
+use Rattle.lt_grammar.proofs.RowPieces.{lines_written}
 use Rattle.lt_grammar.proofs.Splits.{parts_splits}
-use Rattle.lt_commands.specs.declared.note.Note.{Note}
 use Rattle.lt_commands.specs.declared.note.Note.TheVariants.{BeginLine as begin_line, EndLine as end_line}
 use Rattle.lt_commands.specs.Notes.{parts_notes}
 use Rattle.lt_script.specs.declared.symbol.Symbol.{Symbol}

@@ -1,24 +1,19 @@
 -- A line begins exactly where it is noted.
-use Rattle.std.proofs.Common.{◌≡◌, ℕ, ◌∙◌, ap, sym, refl, subst, Bool, true, false, List, [], ◌∷◌, ◌++◌, Option, Some, None, append_assoc, append-nil}
-use Rattle.std.specs.Prelude.{if◌then◌else◌, ◌||◌}
+use Rattle.std.proofs.Common.{◌≡◌, ℕ, ◌∙◌, ap, sym, refl, Bool, true, false, List, [], ◌∷◌, ◌++◌, Option, Some, None, append-nil}
+use Rattle.std.specs.Prelude.{if◌then◌else◌}
 use Rattle.lt_texts.specs.declared.lexical.TokenKind.TheVariants as kinds
-use Rattle.lt_texts.specs.declared.lexical.Token.{Token as Placed}
-use Rattle.lt_texts.specs.declared.lexical.Lexed.{Lexed}
-use Rattle.lt_texts.specs.declared.lexical.Lexed.TheVariants.{Token as One}
 use Rattle.lt_texts.specs.Texts.{Left, lexed, after}
 use Rattle.lt_texts.specs.Lexemes.{Lexeme, a_name, a_variable, a_number, a_sign, Spans}
-use Rattle.lt_grammar.specs.declared.words.Fixed.{Fixed}
 use Rattle.lt_grammar.specs.declared.words.Part.{Part}
 use Rattle.lt_grammar.specs.declared.words.Part.TheVariants.{Label, Number, Variable, Parameters, AType, AStatement, ATerm, Fixed as Exactly}
 use Rattle.lt_grammar.specs.declared.words.RuleWord.{RuleWord}
 use Rattle.lt_grammar.specs.Words.{rule_of}
 use Rattle.lt_commands.specs.declared.note.Note.{Note}
-use Rattle.lt_commands.specs.declared.note.Note.TheVariants.{TypeVar, TypeAlone, TypeOpen, TypeClose, KeepType, ConstantName, NoArguments, Arguments, Bound, FreeName, FreeClose, LambdaName, LambdaClose, Apply, KeepTerm, Label as ALabel, Count, Variable as AVariable, Parameter, KeepParameters, BeginLine, EndLine}
+use Rattle.lt_commands.specs.declared.note.Note.TheVariants.{KeepType, Apply, BeginLine}
 use Rattle.lt_script.specs.declared.symbol.Symbol.{Symbol}
 use Rattle.lt_script.specs.declared.symbol.Symbol.TheVariants.{«Type», Constructor, MoreTypes, Term, Inside, Brackets, Arguments as MoreArguments, MoreTerms, BoundName, FreeName as AFreeName, CloseFree, LambdaName as ALambdaName, Body, CloseLambda, KeepType as AKeepType, KeepTerm as AKeepTerm, Part as APartOf, HeaderNumber, Lines, EndLine as AnEndLine}
-use Rattle.lt_script.specs.Machine.{Move, go, under, step_type, step_term, step_more_types, step_more_terms, step_inside, is_fixed, is_number, line_move, step, step_on, passed, State, state, onward, run}
+use Rattle.lt_script.specs.Machine.{Move, go, under, step_type, step_term, step_more_types, step_more_terms, is_fixed, is_number, line_move, step, step_on, State, state, onward, run}
 use Rattle.lt_script.specs.Marks.{has_begin, begins_by, begins_line, marked, token_place, stack_by, marks}
-use Rattle.lt_script.proofs.Stacks.{one_symbol}
 
 begin-append : (xs ys : List Note) → has_begin ys ≡ false → has_begin (xs ++ ys) ≡ has_begin xs
 begin-append [] ys e = e

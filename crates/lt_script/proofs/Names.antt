@@ -1,6 +1,6 @@
 -- Names and words, as characters and as bytes.
-use Rattle.std.proofs.Common.{◌≡◌, ◌∙◌, ap, sym, refl, Bool, true, false, List, ℕ, [], ◌∷◌, arith}
-use Rattle.std.specs.Prelude.{◌&&◌, chars, encode_utf8_all, zero, suc, IsUtf8, bytes_eq, nat_lt}
+use Rattle.std.proofs.Common.{◌≡◌, ◌∙◌, ap, sym, true, List, ℕ, [], ◌∷◌, arith}
+use Rattle.std.specs.Prelude.{chars, encode_utf8_all, zero, suc, IsUtf8, bytes_eq, nat_lt}
 use Rattle.std.specs.List.{list_all}
 use Rattle.std.specs.Str.{IsAscii}
 use Rattle.std.proofs.lemmas.Bool.{and_parts}
@@ -8,10 +8,9 @@ use Rattle.std.proofs.lemmas.Bool.Decides.{same_from_decides}
 use borrow.Author.Tests.{ltb-true}
 use Rattle.std.proofs.lemmas.Slice.Eq.{bytes_eq-Decides}
 use Rattle.std.proofs.lemmas.Str.{encodes-chars, chars-IsAscii}
-use Rattle.unicode_ident.specs.Ident.{is_xid_continue}
 use Rattle.lt_texts.specs.declared.lexical.TokenKind.{TokenKind}
 use Rattle.lt_texts.specs.declared.lexical.TokenKind.TheVariants as kinds
-use Rattle.lt_definitions.specs.Characters.{is_name, starts_name}
+use Rattle.lt_definitions.specs.Characters.{is_name}
 use Rattle.lt_texts.specs.Spelling.{is_spelt, is_type_variable}
 
 -- what is spelt as a name is one

@@ -1,5 +1,5 @@
 -- Parts of a text, one behind another, and what the machine's stops are called.
-use Rattle.std.proofs.Common.{◌≡◌, ℕ, ◌∙◌, ap, sym, refl, subst, Bool, true, false, List, [], ◌∷◌, ◌++◌, length, Option, Some, None, append_assoc, append-nil}
+use Rattle.std.proofs.Common.{◌≡◌, ℕ, ◌∙◌, ap, sym, refl, subst, Bool, true, false, List, [], ◌∷◌, ◌++◌, length, Option, Some, None, append_assoc}
 use Rattle.std.specs.Prelude.{if◌then◌else◌, bytes_eq}
 use Rattle.std.proofs.lemmas.Slice.Eq.{bytes_eq-Decides}
 use Rattle.lt_texts.specs.declared.lexical.Lexed.{Lexed}
@@ -11,8 +11,8 @@ use Rattle.lt_texts.specs.Forms.{Form}
 use Rattle.lt_grammar.specs.declared.words.Head.{Head}
 use Rattle.lt_grammar.specs.declared.words.Head.TheVariants.{Header}
 use Rattle.lt_grammar.specs.RowTexts.{PartText, header, text_lexemes, texts_lexemes, MayStand, MayStandAll}
-use Rattle.lt_grammar.specs.Words.{head_of, head_word}
-use Rattle.lt_grammar.proofs.Distinct.{IsHead, found_head, head_found}
+use Rattle.lt_grammar.specs.Words.{head_of}
+use Rattle.lt_grammar.proofs.Distinct.{found_head, head_found}
 use Rattle.lt_grammar.proofs.RowReading.{one_part, part_not_empty}
 use Rattle.lt_script.specs.declared.symbol.Symbol.{Symbol}
 use Rattle.lt_script.specs.declared.symbol.Symbol.TheVariants.{Lines}
@@ -20,7 +20,7 @@ use Rattle.lt_script.specs.declared.read_error.ReadError.{ReadError}
 use Rattle.lt_script.specs.declared.read_error.ReadError.TheVariants.{BadHeader, BadCommand, Syntax, BadByte, BadChar}
 use Rattle.lt_commands.specs.declared.note.Note.{Note}
 use Rattle.lt_commands.specs.Notes.{text_notes}
-use Rattle.lt_script.specs.Machine.{Move, under, expected, part_move, header_move, step_part, step_header, or_pass, State, state, onward, run}
+use Rattle.lt_script.specs.Machine.{Move, expected, part_move, header_move, step_part, step_header, State, state, onward, run}
 use Rattle.lt_script.specs.Stops.{IsWaiting, Reads, StopsBy, Stops, StopsAt, call_of}
 use Rattle.lt_script.specs.Reading.{IsWhole, IsRest, IsViable, called, IsWrong, AreHeaders, FailsAt, HeaderFailsAt, NextText, AtEnd}
 use Rattle.lt_script.proofs.Taken.{first_run, takes_text}

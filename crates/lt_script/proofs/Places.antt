@@ -4,7 +4,6 @@ use Rattle.lt_texts.specs.declared.lexical.TokenKind.TheVariants as kinds
 use Rattle.lt_texts.specs.Lexemes.{Lexeme, a_name, a_variable, a_sign}
 use Rattle.lt_texts.specs.Forms.{Form}
 use Rattle.lt_grammar.specs.declared.words.Part.TheVariants.{Label, Number, Variable, Parameters, AType, AStatement, ATerm, Fixed as Exactly}
-use Rattle.lt_grammar.specs.declared.words.Head.TheVariants.{Header}
 use Rattle.lt_grammar.specs.Rows.{fixed, number}
 use Rattle.lt_grammar.specs.RowTexts.{PartText, header, text_lexemes, texts_lexemes, MayStand}
 use Rattle.lt_script.specs.declared.symbol.Symbol.{Symbol}
@@ -16,7 +15,7 @@ use Rattle.lt_script.specs.Machine.{Move, step_part, step_header, step_on, State
 use Rattle.lt_script.specs.Stops.{IsWaiting}
 use Rattle.lt_script.specs.Reading.{IsWhole, IsRest, IsViable, IsFront}
 use Rattle.lt_script.proofs.Taken.{type_kept, term_kept, takes_fixed, takes_number, first_run, takes_text, takes_header}
-use Rattle.lt_script.proofs.Sound.{Language, BeginsSentence, sound_sentence, sound_header, finished, accepts}
+use Rattle.lt_script.proofs.Sound.{BeginsSentence, sound_sentence, sound_header, finished, accepts}
 use Rattle.lt_grammar.proofs.Splits.{text_splits}
 
 abbrev stack_of : Option State → List Symbol

@@ -12,7 +12,7 @@ use Rattle.lt_texts.proofs.OneReading.{one_next}
 use Rattle.lt_texts.proofs.TokenTexts.{token_shortens}
 use Rattle.lt_texts.specs.Forms.{Form}
 use Rattle.lt_grammar.specs.declared.words.Head.{Head}
-use Rattle.lt_grammar.specs.declared.words.Head.TheVariants.{Header, Lemma, Item, Command}
+use Rattle.lt_grammar.specs.declared.words.Head.TheVariants.{Header}
 use Rattle.lt_grammar.specs.RowTexts.{PartText, header, item, lemma, command, text_lexemes, MayStand}
 use Rattle.lt_grammar.specs.Words.{head_of, head_word}
 use Rattle.lt_grammar.proofs.Distinct.{IsHead, head_found, found_head}

@@ -1,8 +1,7 @@
 -- What the machine takes to the end is written by the grammar, and what is expected can be met.
 use Rattle.std.proofs.Common.{◌≡◌, ℕ, ◌∙◌, ap, ap₂, sym, refl, subst, Bool, true, false, List, [], ◌∷◌, ◌++◌, Option, Some, None, append_assoc, append-nil}
 use Rattle.std.specs.Prelude.{◌==◌, if◌then◌else◌, map, codes, bytes_eq}
-use Rattle.std.specs.List.{list_all}
-use Rattle.std.proofs.lemmas.Bool.{eqb-true, and_parts}
+use Rattle.std.proofs.lemmas.Bool.{eqb-true}
 use Rattle.std.proofs.lemmas.Slice.Eq.{bytes_eq-Decides}
 use Rattle.lt_texts.specs.declared.lexical.TokenKind.TheVariants as kinds
 use Rattle.lt_definitions.specs.Types.{Chars, TypeTree, TypeTrees, type_variable, type_constructor, no_types, type_and, row}
@@ -13,15 +12,13 @@ use Rattle.lt_grammar.specs.declared.words.Fixed.TheVariants as signs
 use Rattle.lt_grammar.specs.declared.words.Part.{Part}
 use Rattle.lt_grammar.specs.declared.words.Part.TheVariants.{Label, Number, Variable, Parameters, AType, AStatement, ATerm, Fixed as Exactly}
 use Rattle.lt_grammar.specs.declared.words.RuleWord.{RuleWord}
-use Rattle.lt_grammar.specs.declared.words.ItemWord.{ItemWord}
-use Rattle.lt_grammar.specs.declared.words.CommandWord.{CommandWord}
 use Rattle.lt_grammar.specs.declared.words.Head.{Head}
 use Rattle.lt_grammar.specs.declared.words.Head.TheVariants.{Header, Lemma, Item, Command}
 use Rattle.lt_texts.specs.Writing.{type_lexemes, types_lexemes, arguments_lexemes, TermText, word, bound, free, lambda, applied, TermTexts, no_more_terms, more_terms, term_lexemes, terms_lexemes}
 use Rattle.lt_grammar.specs.Rows.{fixed, Text, Texts, number, part_lexemes, parts_lexemes}
 use Rattle.lt_grammar.specs.Table.{rule_row, item_row, lemma_parts, command_row}
 use Rattle.lt_grammar.specs.RowTexts.{LineText, line, lines_lexemes, PartText, header, item, lemma, command, text_lexemes, MayStand}
-use Rattle.lt_grammar.specs.Words.{find_word, all_rules, rule_of, rule_word, head_of, head_word}
+use Rattle.lt_grammar.specs.Words.{all_rules, rule_of, rule_word, head_of, head_word}
 use Rattle.lt_grammar.proofs.Distinct.{IsHead, found_has, found_head}
 use Rattle.lt_script.specs.declared.symbol.Symbol.{Symbol}
 use Rattle.lt_script.specs.declared.symbol.Symbol.TheVariants.{«Type», Constructor, MoreTypes, Term, Inside, Brackets, Arguments, MoreTerms, BoundName, FreeName, CloseFree, LambdaName, Body, CloseLambda, KeepType, KeepTerm, Part as APartOf, HeaderNumber, Lines, EndLine}

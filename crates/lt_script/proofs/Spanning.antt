@@ -1,6 +1,6 @@
 -- What was read is the next command, with its places.
 use Rattle.std.proofs.Common.{◌≡◌, ℕ, ◌∙◌, ap, sym, refl, subst, false, List, [], ◌∷◌, Option, Some, None}
-use Rattle.std.specs.Prelude.{map, codes}
+use Rattle.std.specs.Prelude.{map}
 use Rattle.std.specs.Option.{option_map}
 use Rattle.lt_texts.specs.declared.lexical.Token.{Token as Placed}
 use Rattle.lt_texts.specs.declared.lexical.Lexed.{Lexed}
@@ -12,9 +12,8 @@ use Rattle.lt_texts.specs.Commands as commands
 use Rattle.lt_texts.specs.Writing.{term_of_text}
 use Rattle.lt_definitions.specs.Items.{lemma_item}
 use Rattle.lt_texts.specs.Forms.{Form, a_command, sentence_text, IsAllowed}
-use Rattle.lt_texts.specs.WrongPlaces as texts
 use Rattle.lt_texts.specs.WrongPlaces.{Stands}
-use Rattle.lt_texts.specs.CommandPlaces.{IsFirstPlace, CommandAt, NextPlaced}
+use Rattle.lt_texts.specs.CommandPlaces.{CommandAt, NextPlaced}
 use Rattle.lt_texts.proofs.Readings.{next_found, spans_reads}
 use Rattle.lt_grammar.specs.declared.words.Head.{Head}
 use Rattle.lt_grammar.specs.RowTexts.{PartText, header, item, lemma, command, text_lexemes, texts_lexemes, MayStand, sentence_of, row_meaning, rule_of_text}
@@ -28,7 +27,7 @@ use Rattle.lt_commands.specs.Views.{command_of}
 use Rattle.lt_commands.proofs.Makes.{text_makes}
 use Rattle.lt_script.specs.declared.reading.Next.TheVariants.{Begins}
 use Rattle.lt_script.specs.declared.symbol.Symbol.{Symbol}
-use Rattle.lt_script.specs.Machine.{expected, State, state, run}
+use Rattle.lt_script.specs.Machine.{expected, state, run}
 use Rattle.lt_script.specs.Marks.{token_place, marks, ReadsLines}
 use Rattle.lt_script.specs.Stops.{SaysNext, Reads, is_header}
 use Rattle.lt_script.proofs.Parts.{Past, reads_part}

@@ -1,6 +1,6 @@
 -- What is said by rows and by what a lexer finds is what the definitions of texts say.
 use Rattle.std.proofs.Common.{◌≡◌, ℕ, ◌∙◌, ap, sym, refl, subst, inl, inr, Bool, true, false, List, [], ◌∷◌, ◌++◌, length, append_assoc}
-use Rattle.std.specs.Prelude.{◌⊎◌, codes, map, if◌then◌else◌, bytes_eq, ◌&&◌, not}
+use Rattle.std.specs.Prelude.{codes, map, if◌then◌else◌, bytes_eq, not}
 use Rattle.std.proofs.lemmas.Bool.{and_parts}
 use Rattle.std.proofs.lemmas.Slice.Eq.{bytes_eq-Decides}
 use Rattle.lt_texts.specs.declared.lexical.Token.{Token as Placed}
@@ -9,7 +9,7 @@ use Rattle.lt_texts.specs.declared.lexical.Lexed.TheVariants.{Token as One, End,
 use Rattle.lt_definitions.specs.Types.{Chars, same_name, has_name}
 use Rattle.lt_definitions.proofs.SameNames.{true-name}
 use Rattle.lt_texts.specs.Tokens.{Scanned}
-use Rattle.lt_texts.specs.Texts.{Left, left_of, lexed, spelling, place_of}
+use Rattle.lt_texts.specs.Texts.{Left, lexed, spelling, place_of}
 use Rattle.lt_texts.specs.Lexemes.{Lexeme, a_name, lexeme, Spans}
 use Rattle.lt_texts.specs.Reading.{IsNextToken, Shows, Reads}
 use Rattle.lt_texts.specs.Commands.{Command, item_command}
@@ -23,10 +23,7 @@ use Rattle.lt_texts.specs.WrongPlaces.{Wrong, Stands, IsStop}
 use Rattle.lt_texts.proofs.Readings.{next_found, lexed_shown, spans_reads}
 use Rattle.lt_texts.proofs.ReadingOrder.{reads_split}
 use Rattle.lt_grammar.specs.RowTexts.{row_meaning, rule_of_text, PartText, header, item, lemma, command, text_lexemes, texts_lexemes, MayStand, MayStandAll, sentence_of, commands_of}
-use Rattle.lt_grammar.specs.Words.{head_word}
-use Rattle.lt_grammar.proofs.RowReading.{head_of_part}
 use Rattle.lt_grammar.proofs.RowPieces.{join_written, split_written, sentence_written, written_sentence, may_allowed, allowed_may}
-use Rattle.lt_grammar.proofs.Splits.{text_splits}
 use Rattle.lt_script.specs.declared.read_error.ReadError.{ReadError}
 use Rattle.lt_script.specs.declared.read_error.ReadError.TheVariants.{BadHeader, BadCommand, Syntax, BadByte, BadChar, Memory}
 use Rattle.lt_script.specs.Promises.{as_wrong, Refuses, RefusesHeader}

@@ -1,5 +1,4 @@
 -- What the reader promises, in the words of the definitions of texts.
-use Rattle.std.specs.Prelude.{ℕ}
 use Rattle.lt_texts.specs.Texts.{Left}
 use Rattle.lt_texts.specs.Forms.{Form}
 use Rattle.lt_texts.specs.WrongPlaces.{TypeFailsAt, TermFailsAt, Wrong, bad_header, bad_command, bad_syntax, bad_byte, bad_char, FailsAt, HeaderFailsAt}

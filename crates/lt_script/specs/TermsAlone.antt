@@ -1,5 +1,5 @@
 -- A term alone, and what stands behind it.
-use Rattle.std.specs.Prelude.{◌≡◌, ◌≢◌, List, [], ◌∷◌, Bool, true, false}
+use Rattle.std.specs.Prelude.{◌≡◌, List, [], ◌∷◌, Bool, true, false}
 use Rattle.lt_texts.specs.declared.lexical.Lexed.{Lexed}
 use Rattle.lt_texts.specs.declared.lexical.Lexed.TheVariants.{Token}
 use Rattle.lt_texts.specs.declared.lexical.TokenKind.TheVariants.{OpenSquare}

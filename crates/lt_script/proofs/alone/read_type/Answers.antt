@@ -1,9 +1,8 @@
 -- What was read is a type.
-use Rattle.std.proofs.Common.{◌≡◌, ◌∙◌, ap, sym, subst, reverse, List, [], ◌∷◌, ◌++◌, Some, None}
+use Rattle.std.proofs.Common.{◌≡◌, ◌∙◌, sym, subst, reverse, Some, None}
 use Rattle.lt_definitions.specs.Types.{TypeTree}
 use Rattle.lt_texts.specs.WrongPlaces.{IsTypeAt}
 use Rattle.lt_commands.specs.Views.{made_of}
-use Rattle.lt_script.specs.declared.symbol.Symbol.{Symbol}
 use Rattle.lt_script.specs.declared.symbol.Symbol.TheVariants.{«Type»}
 use Rattle.lt_script.proofs.AloneLemmas.{one_pushed, type_read, type_refused}
 use Rattle.lt_script.proofs.alone.read_type.Goals as goal

@@ -1,5 +1,5 @@
 -- The stack that is expected behind the word of a sentence.
-use Rattle.std.proofs.Common.{◌≡◌, sym, subst, reverse, [], List}
+use Rattle.std.proofs.Common.{◌≡◌, sym, subst, [], List}
 use Rattle.std.specs.Prelude.{IfOk, IfErr}
 use Rattle.lt_texts.specs.Texts.{here}
 use Rattle.lt_commands.specs.declared.note.Note.{Note}

@@ -1,5 +1,5 @@
 -- Headers are passed over; then a command, the end or a wrong place.
-use Rattle.std.proofs.Common.{ℕ, ◌∙◌, ap, sym, subst, List, [], ◌∷◌, length, arith}
+use Rattle.std.proofs.Common.{ℕ, ◌∙◌, ap, sym, subst, List, [], length, arith}
 use Rattle.lt_texts.specs.CommandPlaces.{NextPlaced}
 use Rattle.lt_commands.specs.Views.{command_of}
 use Rattle.lt_commands.specs.Making.{command_made}

@@ -1,5 +1,5 @@
 -- The header stands there, or the first place that is wrong.
-use Rattle.std.proofs.Common.{◌∙◌, ap, sym, [], ◌∷◌, length}
+use Rattle.std.proofs.Common.{◌∙◌, ap, sym, [], length}
 use Rattle.lt_texts.specs.Lexemes.{lexeme}
 use Rattle.lt_texts.specs.Texts.{Left}
 use Rattle.lt_grammar.specs.declared.words.Head.TheVariants.{Header}

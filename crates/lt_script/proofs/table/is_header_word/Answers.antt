@@ -1,7 +1,6 @@
 -- The texts are compared, whose characters are the name and the word.
-use Rattle.std.proofs.Common.{◌∙◌, ap, List, ℕ}
+use Rattle.std.proofs.Common.{◌∙◌}
 use Rattle.std.specs.Prelude.{bytes_eq, chars}
-use Rattle.lt_script.specs.Openings.{word_of}
 use Rattle.lt_script.proofs.Names.{text_same}
 use Rattle.lt_script.proofs.table.is_header_word.Goals as goal
 

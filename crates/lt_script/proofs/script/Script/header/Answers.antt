@@ -1,5 +1,5 @@
 -- The reader goes on in a copy of what is left.
-use Rattle.std.proofs.Common.{◌∙◌, ap, subst, List, chars}
+use Rattle.std.proofs.Common.{◌∙◌, ap, subst, chars}
 use Rattle.lt_definitions.specs.Types.{Chars}
 use Rattle.lt_texts.specs.Forms.{header_text}
 use Rattle.lt_texts.specs.Texts.{Left}
