@@ -9,7 +9,8 @@ use std::io;
 const MOST: u64 = 268_435_456;
 
 /// A text with a lemma.
-const SMALL: &[u8] = b"plain 1;\nconst p : bool;\nlemma l : (imp p p) {\n  assume p;\n  impI p 1;\n};\n";
+const SMALL: &[u8] =
+    b"plain 1;\nconst p : bool;\nlemma l : (imp p p) {\n  assume p;\n  impI p 1;\n};\n";
 
 /// How many items a plain text has.
 fn count_items(alloc: Global, text: &[u8]) -> core::result::Result<u64, ReadError> {
