@@ -1,5 +1,5 @@
 -- Files that are joined one after another.
-use Rattle.std.proofs.Common.{◌≡◌, ◌⊎◌, inl, inr, ℕ, zero, suc, ◌+◌, ◌-◌, ◌<◌, ◌≤◌, true, false, List, [], ◌∷◌, ◌++◌, length, map, take, drop, slice_get, Option, Some, None, refl, sym, ◌∙◌, ap, subst, arith, length-append, append_assoc, append-nil, if◌then◌else◌, nat_lt}
+use Rattle.std.proofs.Common.{◌≡◌, ◌⊎◌, inl, inr, ℕ, zero, suc, ◌+◌, ◌-◌, ◌<◌, ◌≤◌, true, false, List, [], ◌∷◌, ◌++◌, length, map, take, drop, slice_get, get_or, Option, Some, None, refl, sym, ◌∙◌, ap, subst, arith, length-append, append_assoc, append-nil, if◌then◌else◌, nat_lt}
 use Rattle.std.specs.Prelude.{IfSome, IsSome}
 use Rattle.std.proofs.lemmas.List.{map-append}
 use Rattle.std.proofs.lemmas.Bool.{lt-ltb, le-ltb}
@@ -14,7 +14,7 @@ use Rattle.lt_io.specs.declared.library.ReadFault.{ReadFault}
 use Rattle.lt_io.specs.declared.library.ReadFault.TheVariants as faults
 use Rattle.lt_run.specs.declared.files.Unjoined.{Unjoined}
 use Rattle.lt_run.specs.declared.files.Unjoined.TheVariants as unjoined
-use Rattle.std.proofs.lemmas.Option.{slice_get_within}
+use Rattle.std.proofs.lemmas.Option.{slice_get_within, slice_get_read}
 use Rattle.lt_run.specs.Places.{AreNames}
 
 -- ---- texts
@@ -239,3 +239,7 @@ next_fails old mid now first before behind names i name j faults.Fault u e h sam
 next_fails old mid now first before behind names i name j faults.TooLong u e h same le a b c rose long =
     subst (FailsToJoin now first behind names) (sym (b refl)) (slice_get_within names i name e, next-passes old mid now names i name j e h (long refl) same)
 next_fails old mid now first before behind names i name j faults.Memory u e h same le a b c rose long = subst (FailsToJoin now first behind names) (sym (c refl)) tt
+
+-- the name at a place
+pub name_at : (names : List (List ℕ)) (i : ℕ) (item name : List ℕ) → i < length names → item ≡ get_or names i item → name ≡ item → slice_get names i ≡ Some name
+name_at names i item name h e k = slice_get_read names (length names) i item refl h e ∙ ap Some (sym k)

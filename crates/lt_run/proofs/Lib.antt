@@ -1,7 +1,6 @@
 pub mod Fronts
 pub mod Joins
 pub mod InFiles
-pub mod Positions
 pub mod Summaries
 pub mod Walking
 pub mod Told

@@ -1,11 +1,12 @@
 -- The line on a refusal, by its parts.
-use Rattle.std.proofs.Common.{◌≡◌, ◌⊎◌, inl, inr, ℕ, ◌+◌, ◌-◌, ◌<◌, ◌≤◌, true, false, List, [], ◌∷◌, ◌++◌, length, map, Option, Some, None, refl, sym, ◌∙◌, ap, subst, arith, codes}
-use Rattle.std.specs.Prelude.{encode_utf8_all, nat_le, if◌then◌else◌}
+use Rattle.std.proofs.Common.{◌≡◌, ◌⊎◌, inl, inr, ℕ, ◌+◌, ◌-◌, ◌<◌, ◌≤◌, true, false, List, [], ◌∷◌, ◌++◌, length, map, slice_get, Option, Some, None, Result, Ok, Err, refl, sym, ◌∙◌, ap, subst, arith, codes}
+use Rattle.std.specs.Prelude.{encode_utf8_all, nat_le, if◌then◌else◌, IfOk}
+use Rattle.std.specs.Fmt.{decimal}
 use Rattle.std.proofs.lemmas.Bool.Decides.{leb_tells}
 use Rattle.lt_definitions.specs.Types.{Chars}
 use Rattle.lt_definitions.specs.Theory.{Refusal}
 use Rattle.lt_definitions.specs.Printing.{words}
-use Rattle.lt_texts.specs.Files.{File, InFile, in_file, printed_place}
+use Rattle.lt_texts.specs.Files.{File, InFile, in_file, printed_place, line_number, column_number}
 use Rattle.lt_texts.specs.WrongPlaces.{Wrong, bad_header, bad_command, bad_syntax, bad_byte, bad_char}
 use Rattle.lt_walks.specs.Walks.{End, accepted, too_long, wrong_header, unread, refused}
 use Rattle.lt_walks.specs.RefusalTexts.{printed_refusal, wrong_word, wrong_place}
@@ -15,6 +16,7 @@ use Rattle.lt_plain.specs.Telling.{as_placed, TellsEnd}
 use Rattle.lt_plain.specs.Showing.{shown_words}
 use Rattle.lt_plain.proofs.Showings.{told_prints, wrong_prints}
 use Rattle.lt_run.specs.declared.files.Joined.{Joined}
+use Rattle.lt_run.specs.declared.places.Position.{Position}
 use Rattle.lt_run.specs.Places.{AreNames, IsJoinedOfSome}
 use Rattle.lt_run.proofs.InFiles.{this-file, later-file}
 
@@ -70,3 +72,14 @@ names-some names j [] h e = absurd (no-names h.held (sym h.named ∙ e) h.some)
     no-names [] e some = omega (arith, some)
     no-names (f ∷ files) e some = cc e
 names-some names j (f ∷ held) h e = omega arith
+
+-- a place by its parts
+pub place_printed : {A E : Type 0} (bytes : A → List ℕ) (r : Result A E) (names : List (List ℕ)) (file : ℕ) (name front taken : List ℕ) (q : Position) (p : InFile)
+    → IfOk r (λ t. bytes t ≡ name ++ (codes ":" ++ (decimal q.line ++ (codes ":" ++ decimal q.column)))) → slice_get names file ≡ Some name → slice_get names file ≡ Some p.name → front ≡ taken
+    → taken ≡ p.before → q.line ≡ line_number front → q.column ≡ column_number front → IfOk r (λ t. bytes t ≡ printed_place p)
+place_printed bytes (Err e) names file name front taken q p h one other same before line column = tt
+place_printed bytes (Ok t) names file name front taken q p h one other same before line column =
+    let both : Some name ≡ Some p.name = sym one ∙ other in
+    let named : name ≡ p.name = cc both in
+    let is : front ≡ p.before = same ∙ before in
+    h ∙ (λ i. named i ++ (codes ":" ++ (decimal ((line ∙ ap line_number is) i) ++ (codes ":" ++ decimal ((column ∙ ap column_number is) i)))))

@@ -1,10 +1,10 @@
 -- The words of a call, by how many they are and which is the first.
-use Rattle.std.proofs.Common.{◌≡◌, ◌≢◌, ℕ, zero, suc, ◌+◌, ◌-◌, ◌<◌, ◌≤◌, Bool, true, false, ◌||◌, List, [], ◌∷◌, ◌++◌, length, take, drop, get_or, refl, sym, ◌∙◌, ap, subst, arith, codes}
+use Rattle.std.proofs.Common.{◌≡◌, ◌≢◌, ◌⊎◌, inl, inr, ℕ, zero, suc, ◌+◌, ◌-◌, ◌<◌, ◌≤◌, Bool, true, false, ◌||◌, List, [], ◌∷◌, ◌++◌, length, take, drop, get_or, refl, sym, ◌∙◌, ap, subst, arith, codes}
 use Rattle.std.proofs.Math.Seq.{take-length}
 use Rattle.std.specs.List.{list_any}
 use Rattle.std.proofs.lemmas.List.{take_more}
 use Rattle.lt_walks.specs.Calls.{AreCheckWords}
-use Rattle.lt_run.specs.Words.{is_option}
+use Rattle.lt_run.specs.Words.{is_option, AreWords}
 
 rest-all : (w : List ℕ) (ws : List (List ℕ)) → take (length (w ∷ ws) - 1) ws ≡ ws
 rest-all w ws = let count : length (w ∷ ws) - 1 ≡ length ws = omega arith in ap (λ k. take k ws) count ∙ take-length ws
@@ -54,3 +54,8 @@ one_is (n ∷ names) (suc i) d h e = any-right (is_option n) (list_any is_option
     any-right : (a b : Bool) → b ≡ true → (a || b) ≡ true
     any-right true b k = refl
     any-right false b k = k
+
+-- by the words that name the files
+pub stops_by : {P : Type 0} (words names : List (List ℕ)) (S : List (List ℕ) → Type 0) → AreWords words names → P ⊎ S names → P ⊎ ((ns : List (List ℕ)) × AreWords words ns × S ns)
+stops_by words names S are (inl p) = inl p
+stops_by words names S are (inr s) = inr (names, are, s)

@@ -1,5 +1,6 @@
 //! Places in the files that a text is joined of.
-ghost use Rattle.std.specs.Prelude.{◌≡◌, ◌≤◌, ◌<◌, ◌++◌, ◌∷◌, [], ℕ, List, Some, IfOk, string_bytes};
+ghost use Rattle.std.specs.Prelude.{◌≡◌, ◌≤◌, ◌<◌, ◌-◌, ◌++◌, ◌∷◌, [], ℕ, List, length, take, drop, slice_get, codes, Some, IfOk, string_bytes};
+ghost use Rattle.std.specs.Fmt.{decimal};
 ghost use Rattle.lt_texts.specs.Files.{File, InFile, in_file, printed_place, line_number, column_number, begins_character};
 ghost use Rattle.lt_run.specs.Joining.{IsJoinedOf};
 ghost use Rattle.lt_run.specs.Places.{AreNames, IsJoinedOfSome, IsFound, IsBehind};
@@ -38,8 +39,32 @@ pub(crate) fn place_text(
         → IfOk result (λ text. string_bytes text ≡ printed_place p) }
 {
     let front = find_place(names, joined, place);
-    let position = position_behind(&joined.text[front.from..front.to]);
-    let file = names[front.file].as_str();
+    let position = position_behind(bytes_of(joined, front));
+    position_text(alloc, name_of(names, front.file), position)
+}
+
+/// The bytes of a front.
+fn bytes_of<'a>(joined: &'a Joined, front: Front) -> &'a [u8]
+    requires from { front.from ≤ front.to }
+    requires to { front.to ≤ length joined.now.text.items }
+    ensures { result.now ≡ take (front.to - front.from) (drop front.from joined.now.text.items) }
+{
+    &joined.text[front.from..front.to]
+}
+
+/// The name of a file.
+fn name_of<'a>(names: &'a [Text], file: usize) -> &'a str
+    requires { file < length names.now }
+    ensures { slice_get names.now file ≡ Some result.now }
+{
+    names[file].as_str()
+}
+
+/// A file's name with a position in it.
+fn position_text(alloc: Global, file: &str, position: Position) -> Result<String, AllocError>
+    ensures { IfOk result (λ text. string_bytes text ≡ file.now ++ (codes ":"
+        ++ (decimal position.line ++ (codes ":" ++ decimal position.column)))) }
+{
     let line = position.line;
     let column = position.column;
     format!(in alloc; "{file}:{line}:{column}")

@@ -12,7 +12,7 @@ overflow_add-from c =
     let h = c.files.invariant c.requires.held c.requires.named c.requires.joined in
     let size = at_index c.requires.held c.args.joined.now c.args.place c.files.file c.files.from c.index.result.now h c.requires.joined c.index.ensures in
     let inside = at_inside c.requires.held c.args.joined.now c.args.place c.files.file c.files.from h c.requires.joined in
-    omega (arith, size, inside, c.args.joined.now.text.ok.0, c.args.joined.now.text.small.0, c.args.joined.now.text.small.1)
+    omega (arith, size, inside, c.args.joined.now.text.ok.0, c.args.joined.now.text.ok.1, c.args.joined.now.text.small)
 
 pub files-preserved : goal.files-preserved
 files-preserved c = λ held are joined.
