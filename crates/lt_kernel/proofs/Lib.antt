@@ -4,3 +4,4 @@ pub mod NamedIds
 pub mod StateLemmas
 pub mod GrowingLemmas
 pub mod ReachingLemmas
+pub mod DerivedLines

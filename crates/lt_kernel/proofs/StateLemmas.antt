@@ -21,7 +21,7 @@ use Rattle.lt_kernel.specs.declared.rule_fault.RuleFault.TheVariants.{Bad, Dupli
 use Rattle.lt_kernel.specs.State.{State, sequents, Keeps, AddsLine, Answers}
 use Rattle.lt_kernel.proofs.LineNumbers.{line-last, length-last, as-many-lines}
 
-sequent-extends : (old new : List Node) (s : Sequent) → Extends old new → IsWithin (length old) s → sequent_at new s ≡ sequent_at old s
+pub sequent-extends : (old new : List Node) (s : Sequent) → Extends old new → IsWithin (length old) s → sequent_at new s ≡ sequent_at old s
 sequent-extends old new s e h =
     let hyps = trees-extends old new s.hyps e h.0 in
     let concl = tree_at-extends old new s.concl e h.1 in

@@ -3,3 +3,4 @@ pub mod Lines
 pub mod State
 pub mod Growing
 pub mod Reaching
+pub mod Derived

@@ -12,6 +12,7 @@ ghost use Rattle.lt_kernel.specs.Sequents.{IsWithin};
 ghost use Rattle.lt_kernel.specs.State.{sequents, step_of, Answers, Keeps, Names};
 ghost use Rattle.lt_kernel.specs.Growing.{Carries};
 ghost use Rattle.lt_kernel.specs.Reaching.{Reaches};
+ghost use Rattle.lt_kernel.specs.Derived.{AreDerived};
 
 use crate::derive::derive;
 use crate::rule_fault::RuleFault;
@@ -44,10 +45,11 @@ impl<S: TermStore> Model for Proof<S> {
 
     ghost use Rattle.std.specs.Prelude.{length};
     ghost use Rattle.lt_kernel.specs.Sequents.{AreWithin, NamedWithin};
+    ghost use Rattle.lt_kernel.specs.Derived.{AreDerived};
 
     ghost view = { λ p. record { nodes = S.nodes p.store; signature = p.signature; named = p.named.entries; steps = p.steps.items } };
 
-    ghost invariant = { λ p. record { steps : AreWithin (length (S.nodes p.store)) p.steps.items; named : NamedWithin (length (S.nodes p.store)) p.named.entries } };
+    ghost invariant = { λ p. record { steps : AreWithin (length (S.nodes p.store)) p.steps.items; named : NamedWithin (length (S.nodes p.store)) p.named.entries; derived : AreDerived (record { nodes = S.nodes p.store; signature = p.signature; named = p.named.entries; steps = p.steps.items }) } };
 }
 
 /// How many types, constants and named statements there are.
@@ -134,6 +136,14 @@ impl<S: TermStore> Proof<S> {
             Some(step) => Some(&step.line),
             None => None,
         }
+    }
+
+    /// The lines with their sequents: each line's is what its rule gave from the lines before it.
+    pub fn steps(&self) -> &[Step]
+        ensures is { result.now ≡ self.now.steps }
+        ensures derived { AreDerived self.now }
+    {
+        self.steps.as_slice()
     }
 
     /// Whether there is a line with the number.

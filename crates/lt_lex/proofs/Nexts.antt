@@ -25,7 +25,7 @@ pub front_length : (source text : List ℕ) (at : ℕ) → IsOpened source text 
 front_length source text at o = ap length o.front ∙ omega (arith, length-take (utf8_valid_len source) source, utf8_valid_len_le source)
 
 -- a place is told by the characters from there on
-place_told : (source text : List ℕ) (at from : ℕ) → IsOpened source text at → IsCharBoundary text from → place_of (left_at source text at) (ahead_at text from) ≡ from
+pub place_told : (source text : List ℕ) (at from : ℕ) → IsOpened source text at → IsCharBoundary text from → place_of (left_at source text at) (ahead_at text from) ≡ from
 place_told source text at from o b =
     omega (arith, b.0, front_length source text at o, length-drop from text, ap length (encodes-chars (drop from text) (IsUtf8-drop text from (IsUtf8-from_is_utf8 text o.utf8) b)))
 

@@ -6,6 +6,10 @@ use Rattle.lt_texts.specs.declared.lexical.TokenKind.{TokenKind}
 use Rattle.lt_definitions.specs.Characters.{behind_gap}
 use Rattle.lt_texts.specs.Tokens.{Scanned}
 
+-- the longest front that is UTF-8
+abbrev pub front_of : List ℕ → List ℕ
+front_of source = take (utf8_valid_len source) source
+
 -- the characters from a place on
 abbrev pub ahead_at : List ℕ → ℕ → List ℕ
 ahead_at text at = chars (drop at text)

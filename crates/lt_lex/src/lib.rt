@@ -5,9 +5,10 @@ mod ascii;
 mod number;
 mod scan;
 
-ghost use Rattle.std.specs.Prelude.{◌≡◌, ◌<◌, length};
+ghost use Rattle.std.specs.Prelude.{◌≡◌, ◌<◌, [], length, drop, chars, IsCharBoundary};
+ghost use Rattle.lt_lex.specs.Places.{front_of};
 ghost use Rattle.lt_texts.specs.Slices.{IsSlice, IsRead, bytes_of, OnToken, OnNone};
-ghost use Rattle.lt_texts.specs.Texts.{Left, left_of, lexed, after, ending, IsToken};
+ghost use Rattle.lt_texts.specs.Texts.{Left, left_of, here, lexed, after, ending, IsToken};
 
 pub use lt_texts::lexical::{Lexed, Token, TokenKind};
 pub use number::parse_number;
@@ -43,6 +44,37 @@ impl<'a> Lexer<'a> {
             source,
             text,
             at: 0,
+        }
+    }
+
+    /// The text from a place on, a number of bytes. Where no character begins there, and behind the
+    /// first byte that is no UTF-8, nothing is ahead. It takes time in the text's length.
+    pub fn at(source: &'a [u8], from: usize) -> Lexer<'a>
+        ensures source { result.source ≡ source.now }
+        ensures inside { IsCharBoundary (front_of source.now) from
+            → result.ahead ≡ chars (drop from (front_of source.now)) }
+        ensures outside { (IsCharBoundary (front_of source.now) from → ⊥) → result.ahead ≡ [] }
+    {
+        let text = scan::valid_front(source);
+        let at = scan::boundary_at(text, from);
+        Lexer { source, text, at }
+    }
+
+    /// The place that the reading has come to, a number of bytes from the text's begin.
+    pub fn place(&self) -> usize
+        ensures { result ≡ here self.now }
+    {
+        self.at
+    }
+
+    /// The same text at the same place. It takes constant time.
+    pub fn copy(&self) -> Lexer<'a>
+        ensures { result ≡ self.now }
+    {
+        Lexer {
+            source: self.source,
+            text: self.text,
+            at: self.at,
         }
     }
 

@@ -21,6 +21,18 @@ pub(crate) fn valid_front<'a>(source: &'a [u8]) -> &'a str
     }
 }
 
+/// The place, where a character begins there or the text ends, and else the text's end.
+pub(crate) fn boundary_at(text: &str, at: usize) -> usize
+    ensures place { IsCharBoundary text.now result }
+    ensures inside { IsCharBoundary text.now at → result ≡ at }
+    ensures outside { (IsCharBoundary text.now at → ⊥) → result ≡ length text.now }
+{
+    if text.is_char_boundary(at) {
+        return at;
+    }
+    text.len()
+}
+
 /// The character at a place, and the place behind it.
 #[inline(always)]
 pub(crate) fn char_at(text: &str, at: usize) -> Option<(char, usize)>

@@ -1,5 +1,5 @@
 -- `==` of nodes decides whether they are one.
-use Rattle.std.proofs.Common.{◌≡◌, ◌<◌, true, Bool, ◌&&◌, ap, nat_eq, arith}
+use Rattle.std.proofs.Common.{◌≡◌, true, ap, nat_eq, arith}
 use Rattle.std.specs.Cmp.Lexicographic.{pointwise, pointwise_decides, bytes_decides}
 use Rattle.std.proofs.lemmas.Bool.{false≢true}
 use Rattle.std.proofs.lemmas.Bool.Decides.{nat_tests}

@@ -1,6 +1,7 @@
 //! A store of terms in which no node stands twice.
 #![tactic(auto)]
 
+mod distinct;
 mod shared_store;
 
 pub use shared_store::SharedStore;

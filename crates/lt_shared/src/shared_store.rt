@@ -3,25 +3,24 @@ ghost use Rattle.std.specs.Prelude.{◌≡◌, ◌<◌, ℕ, List, [], length, s
 ghost use Rattle.lt_store.specs.declared.node.Node.{Node};
 ghost use Rattle.lt_store.specs.Bounds.{IsBounded, AreBounded};
 ghost use Rattle.lt_store.specs.Replaced.{AreReplaced, IsReplacing};
-ghost use Rattle.lt_store.specs.Trees.{Extends, IsBelow, IsGrounded, Makes, node_tree, tree_at};
+ghost use Rattle.lt_store.specs.Trees.{Extends, IsBelow, Makes, node_tree, tree_at};
 ghost use Rattle.lt_store.specs.Views.{node_of};
-ghost use Rattle.lt_shared.specs.Separate.{IsSeparate};
 
-use indexmap::IndexSet;
+use crate::distinct::Distinct;
 use lt_hol::{Memory, Name, Ty, Tys};
 use lt_store::{Bounds, Id, Memo, Node, Replacing, TermStore, View};
 use std::alloc::Global;
 use std::marker::Model;
 
-/// The nodes as keys of a set, in the order in which they were first made: a node that was made
-/// before is found again, so that each term stands once and `same` compares two numbers.
+/// Distinct nodes: a node that was made before is found again, so that each term stands once and
+/// `same` compares two numbers.
 ///
 /// The bounds of each node's term stand beside it, so that a pass doesn't go into a term that it
 /// can't change. Where memory ran out between a node and its bounds, they are wanting from it on.
 /// What the last replacement of a free variable made is kept, too.
 #[derive(Debug, Drop)]
 pub struct SharedStore {
-    nodes: IndexSet<Node>,
+    nodes: Distinct,
     bounds: Vec<Bounds>,
     replaced: Option<Replacing>,
 }
@@ -29,10 +28,8 @@ pub struct SharedStore {
 impl Model for SharedStore {
     ghost use Rattle.std.specs.Prelude.{List, IfSome};
     ghost use Rattle.lt_store.specs.declared.node.Node.{Node};
-    ghost use Rattle.lt_store.specs.Trees.{IsGrounded};
     ghost use Rattle.lt_store.specs.Bounds.{AreBounded};
     ghost use Rattle.lt_store.specs.Replaced.{IsReplacing};
-    ghost use Rattle.lt_shared.specs.Separate.{IsSeparate};
 
     ghost Value = { List Node };
 
@@ -41,9 +38,9 @@ impl Model for SharedStore {
 
     ghost coded = { coded_list (Prim.hlevel (codes, coded_type)) };
 
-    ghost view = { λ s. s.nodes.keys };
+    ghost view = { λ s. s.nodes };
 
-    ghost invariant = { λ s. record { grounded : IsGrounded s.nodes.keys; separate : IsSeparate s.nodes.keys; bounded : AreBounded s.nodes.keys s.bounds.items; replaced : IfSome s.replaced (IsReplacing s.nodes.keys) } };
+    ghost invariant = { λ s. record { bounded : AreBounded s.nodes s.bounds.items; replaced : IfSome s.replaced (IsReplacing s.nodes) } };
 }
 
 impl SharedStore {
@@ -52,7 +49,7 @@ impl SharedStore {
         ensures { result ≡ [] }
     {
         SharedStore {
-            nodes: IndexSet::new(alloc),
+            nodes: Distinct::new(alloc),
             bounds: Vec::new(alloc),
             replaced: None,
         }
@@ -64,37 +61,22 @@ impl SharedStore {
         ensures ok { IfOk result (Makes self.old self.new node) }
         ensures kept { Extends self.old self.new }
     {
-        let id = insert(&mut self.nodes, node)?;
+        let id = self.nodes.insert(node)?;
         note(&self.nodes, &mut self.bounds, id)?;
         Ok(id)
     }
 }
 
-/// The place of a node among distinct nodes, to which it is added where it isn't there yet.
-fn insert(nodes: &mut IndexSet<Node>, node: Node) -> Result<Id, Memory>
-    requires below { IsBelow (length nodes.old.keys) node }
-    requires grounded { IsGrounded nodes.old.keys }
-    requires separate { IsSeparate nodes.old.keys }
-    ensures ok { IfOk result (Makes nodes.old.keys nodes.new.keys node) }
-    ensures kept { Extends nodes.old.keys nodes.new.keys }
-    ensures grounded { IsGrounded nodes.new.keys }
-    ensures separate { IsSeparate nodes.new.keys }
-{
-    let (id, _) = nodes.insert_full(node)?;
-    Ok(id)
-}
-
 /// Adds the bounds of a node's term, where they are known and the next to be added.
-fn note(nodes: &IndexSet<Node>, bounds: &mut Vec<Bounds>, id: Id) -> Result<(), Memory>
-    requires id { id < length nodes.now.keys }
-    requires grounded { IsGrounded nodes.now.keys }
-    requires bounded { AreBounded nodes.now.keys bounds.old.items }
-    ensures { AreBounded nodes.now.keys bounds.new.items }
+fn note(nodes: &Distinct, bounds: &mut Vec<Bounds>, id: Id) -> Result<(), Memory>
+    requires id { id < length nodes.now }
+    requires bounded { AreBounded nodes.now bounds.old.items }
+    ensures { AreBounded nodes.now bounds.new.items }
 {
     if id != bounds.len() {
         return Ok(());
     }
-    let Some(known) = Bounds::of_node(nodes[id].view(), bounds.as_slice()) else {
+    let Some(known) = Bounds::of_node(nodes.view(id), bounds.as_slice()) else {
         return Ok(());
     };
     bounds.push(known)?;
@@ -116,7 +98,7 @@ impl TermStore for SharedStore {
         ensures stands { tree_at self.now id ≡ node_tree self.now (node_of result) }
         ensures once { (other : ℕ) → slice_get self.now other ≡ Some (node_of result) → other ≡ id }
     {
-        self.nodes[id].view()
+        self.nodes.view(id)
     }
 
     /// The bounds that stand beside the node.
@@ -155,8 +137,7 @@ impl TermStore for SharedStore {
 
     /// Whether the two ids are one, which takes constant time.
     fn same(&self, _alloc: Global, a: Id, b: Id) -> Result<bool, Memory> {
-        let _ = &self.nodes;
-        Ok(a == b)
+        Ok(self.nodes.same(a, b))
     }
 }
 

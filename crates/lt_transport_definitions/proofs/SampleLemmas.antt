@@ -4,7 +4,8 @@ use Rattle.std.proofs.Common.{refl, sym, subst}
 use Rattle.lt_definitions.specs.Items.{Item, Context, with_item}
 use Rattle.lt_definitions.specs.Theory.{Refusal, refusal, AreValid, checked, checked_after}
 use Rattle.lt_transport_definitions.specs.Sessions.{Session}
-use Rattle.lt_transport_definitions.specs.Commands.{Command, item_command, this_item, Block, with_addition, session_behind}
+use Rattle.lt_texts.specs.Commands.{Command, item_command}
+use Rattle.lt_transport_definitions.specs.Commands.{this_item, Block, with_addition, session_behind}
 use Rattle.lt_transport_definitions.specs.Rows.{BlockOutcome, item_test}
 use Rattle.lt_transport_definitions.specs.Blocks.{ComesOf, Unless}
 use Rattle.lt_transport_definitions.specs.Samples.{LeadTo, behind_items}

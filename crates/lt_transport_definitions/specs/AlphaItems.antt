@@ -1,13 +1,17 @@
--- What is added and what is kept of a refusal, up to alpha equality: a contract promises no binder
--- names.
+-- What a single call answers where the code keeps no binder names: the items of a command up to
+-- alpha equality, and a refusal up to how it prints. What is written of a walk shows neither.
 -- Source: this project's own.
-use Rattle.std.specs.Prelude.{◌≡◌, List, [], ◌∷◌, Some, Ok}
+use Rattle.std.specs.Prelude.{◌≡◌, List, [], ◌∷◌, Err}
 use Rattle.lt_definitions.specs.Terms.{TermTree}
 use Rattle.lt_definitions.specs.Alpha.{IsAlphaEqual}
-use Rattle.lt_definitions.specs.Rules.{Rule, rule_map, terms_of, AreAlphaEqual, IsAlphaEqualOutcome}
+use Rattle.lt_definitions.specs.Rules.{Rule, rule_map, terms_of, AreAlphaEqual}
 use Rattle.lt_definitions.specs.Items.{Item, axiom_item, def_item, typedef_item, lemma_item}
-use Rattle.lt_definitions.specs.Theory.{Refusal, not_proved}
-use Rattle.lt_transport_definitions.specs.Commands.{CommandRefusal, as_item, respect_differs, image_differs, Addition, this_item, a_lemma}
+use Rattle.lt_definitions.specs.Theory.{AreValid}
+use Rattle.lt_texts.specs.Commands.{Command}
+use Rattle.lt_transport_definitions.specs.Sessions.{Session}
+use Rattle.lt_transport_definitions.specs.Commands.{CommandRefusal}
+use Rattle.lt_transport_definitions.specs.Reports.{printed_refusal}
+use Rattle.lt_transport_definitions.specs.Blocks.{ComesOf, Gives}
 
 -- The rules of two lines are one, with alpha-equal terms.
 abbrev pub IsAlphaEqualRule : Rule TermTree → Rule TermTree → Type 0
@@ -31,28 +35,20 @@ IsAlphaEqualItem (lemma_item l t lines) (lemma_item m u others) =
     (l ≡ m) × IsAlphaEqual t u × AreAlphaEqualRules lines others
 IsAlphaEqualItem i j = i ≡ j
 
--- The item is what is added, up to alpha equality: that item, or the lemma of that label and
--- statement with some lines.
-abbrev pub IsItemOf : Addition → Item → Type 0
-IsItemOf (this_item i) item = IsAlphaEqualItem i item
-IsItemOf (a_lemma l t) item =
-    (lines : List (Rule TermTree)) × IsAlphaEqualItem (lemma_item l t lines) item
+-- Each item is the one at its place.
+abbrev pub AreAlphaEqualItems : List Item → List Item → Type 0
+AreAlphaEqualItems [] [] = Unit {0}
+AreAlphaEqualItems (i ∷ items) (j ∷ others) = IsAlphaEqualItem i j × AreAlphaEqualItems items others
+AreAlphaEqualItems _ _ = ⊥
 
--- The items are what a list of additions adds.
-abbrev pub AreItemsOf : List Addition → List Item → Type 0
-AreItemsOf [] [] = Unit {0}
-AreItemsOf (a ∷ additions) (item ∷ items) = IsItemOf a item × AreItemsOf additions items
-AreItemsOf _ _ = ⊥
+-- A call gives items and a session: those that the command gives, the items up to alpha equality,
+-- and valid themselves.
+abbrev pub GivesAlike : Session → Command → List Item → Session → Type 0
+GivesAlike s c items later =
+    (given : List Item) × Gives s c given later × AreAlphaEqualItems given items
+    × AreValid s.context items
 
--- Two refusals of items are one, up to alpha equality of the sequent that is kept.
-abbrev pub IsAlphaEqualItemRefusal : Refusal → Refusal → Type 0
-IsAlphaEqualItemRefusal (not_proved (Some s)) (not_proved (Some u)) =
-    IsAlphaEqualOutcome (Ok s) (Ok u)
-IsAlphaEqualItemRefusal r q = r ≡ q
-
--- Two refusals are one, up to alpha equality of the terms that are kept.
-abbrev pub IsAlphaEqualRefusal : CommandRefusal → CommandRefusal → Type 0
-IsAlphaEqualRefusal (as_item r) (as_item q) = IsAlphaEqualItemRefusal r q
-IsAlphaEqualRefusal (respect_differs t) (respect_differs u) = IsAlphaEqual t u
-IsAlphaEqualRefusal (image_differs t) (image_differs u) = IsAlphaEqual t u
-IsAlphaEqualRefusal r q = r ≡ q
+-- A call refuses a command: its refusal prints as the first one that applies.
+abbrev pub RefusesAlike : Session → Command → CommandRefusal → Type 0
+RefusesAlike s c r = (first : CommandRefusal) × ComesOf s c (Err first)
+    × (printed_refusal first ≡ printed_refusal r)

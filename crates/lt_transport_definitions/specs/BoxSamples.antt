@@ -8,7 +8,7 @@ use Rattle.lt_definitions.specs.Terms.{TermTree}
 use Rattle.lt_definitions.specs.Items.{Item, type_item, const_item, axiom_item}
 use Rattle.lt_transport_definitions.specs.Notation.{WithType, ◌⇒◌, ◌~◌, ◌·◌, ◌≐◌, equality_at}
 use Rattle.lt_transport_definitions.specs.Constants.{apply, rel_fun, relcompp, domainp, quotient}
-use Rattle.lt_transport_definitions.specs.Relations.{right_total, Correspondence}
+use Rattle.lt_transport_definitions.specs.Relations.{Correspondence}
 use Rattle.lt_transport_definitions.specs.LawTexts.{further_statements}
 use Rattle.lt_transport_definitions.specs.Sessions.{Four, Session}
 use Rattle.lt_transport_definitions.specs.QuotientTerms.{identity_four}
@@ -70,8 +70,8 @@ abbrev pub nat_four : Four
 nat_four = identity_four (box nat)
 
 -- types and theorems: two that can be lifted, one at a type, one whose correspondence is no
--- constant, one whose raw type is declared later, and one whose raw type is a variable; and
--- statements of rules over them
+-- constant, one whose relation has a type variable of its own, one whose raw type is declared
+-- later, and one whose raw type is a variable; and statements of rules over them
 abbrev pub box_items : List Item
 box_items = type_item (codes "cup") 1 ∷ type_item (codes "box") 1 ∷ type_item (codes "late") 1
     ∷ type_item (codes "arr") 1
@@ -81,12 +81,14 @@ box_items = type_item (codes "cup") 1 ∷ type_item (codes "box") 1 ∷ type_ite
     ++ (four_declared (tyvar "a") (box (tyvar "a")) "Rb" "Ab" "Bb" "Tb"
     ++ declares "w" ((cup (tyvar "a") ⇒ bool) ⇒ bool)
     ∷ declares "v" ((box (tyvar "a") ⇒ bool) ⇒ bool)
+    ∷ declares "loose" (tyvar "b" ⇒ cup (tyvar "a") ~ cup (tyvar "a")) ∷ declares "any" (tyvar "b")
     ∷ declares "none" (cup (tyvar "a")) ∷ declares "empty" (box (tyvar "a"))
     ∷ axiom_item (codes "Q_box") (theorem cup_four)
     ∷ axiom_item (codes "Q_arr") (theorem arr_four)
     ∷ axiom_item (codes "Q_nat") (theorem nat_four)
     ∷ axiom_item (codes "Q_term")
     (theorem (record cup_four { corr = relcompp (equality_at (cup (tyvar "a"))) cup_four.corr }))
+    ∷ axiom_item (codes "Q_loose") (theorem (record cup_four { rel = loose_relation }))
     ∷ axiom_item (codes "Q_late")
     (theorem (four_named (late (tyvar "a")) (box (tyvar "a")) "Rl" "Al" "Bl" "Tl"))
     ∷ axiom_item (codes "Q_bare")
@@ -107,6 +109,10 @@ box_items = type_item (codes "cup") 1 ∷ type_item (codes "box") 1 ∷ type_ite
   where
     none_of_cup : WithType
     none_of_cup = given_constant "none" (cup (tyvar "a"))
+
+    loose_relation : WithType
+    loose_relation = given_constant "loose" (tyvar "b" ⇒ cup (tyvar "a") ~ cup (tyvar "a"))
+        · given_constant "any" (tyvar "b")
 
 -- the numbers, the further statements, and these
 abbrev pub box_theory : List Item
@@ -135,7 +141,12 @@ abbrev pub over_correspondence : Session
 over_correspondence = fold with_registration over_boxes
     (corr_registered box_correspondence
     ∷ property_registered
-    (record { label = codes "T_right"; property = right_total; head = codes "T"; premises = [] })
+    (record {
+      label = codes "T_right";
+      property = codes "right_total";
+      head = codes "T";
+      premises = [];
+    })
     ∷ domain_registered (record {
       label = codes "T_domain";
       head = codes "T";

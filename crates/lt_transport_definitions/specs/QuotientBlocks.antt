@@ -2,18 +2,19 @@
 -- Source: setup_lifting of Isabelle; the tests and the blocks are this project's own.
 use Rattle.std.specs.Prelude.{List, [], ◌∷◌, ◌++◌, Bool, true, false, ◌&&◌, ◌||◌, not, if◌then◌else◌, map, Option, Some, None, codes, option_and_then}
 use Rattle.std.specs.List.{list_all}
+use Prim.Native.String.{String}
 use Rattle.lt_definitions.specs.Types.{Chars, same_name, has_name, TypeTree, type_variable, type_constructor, TypeTrees, no_types, type_and, bool, row, types_names, type_variables}
 use Rattle.lt_definitions.specs.Terms.{TermTree, constant, application, term_names}
 use Rattle.lt_definitions.specs.Typing.{Signature, declared_type}
+use Rattle.lt_definitions.specs.Printing.{printed_type}
 use Rattle.lt_transport_definitions.specs.Notation.{WithType, ◌⇒◌, ◌~◌, ◌·◌, ◌≐◌, lambda, equality_at}
 use Rattle.lt_transport_definitions.specs.Letters.{a, c, d, e}
 use Rattle.lt_transport_definitions.specs.Constants.{is_counted, apply, rel_fun, domainp}
-use Rattle.lt_transport_definitions.specs.Relations.{Property, right_total, right_unique, Correspondence}
+use Rattle.lt_transport_definitions.specs.Relations.{Property, Correspondence}
 use Rattle.lt_transport_definitions.specs.Answers.{wrong_where}
 use Rattle.lt_transport_definitions.specs.Forms.{constructor_name, correspondence_form}
 use Rattle.lt_transport_definitions.specs.Sessions.{Four, QuotientEntry, constant_name, constant_types_of}
-use Rattle.lt_transport_definitions.specs.Commands.{QuotientPart, CommandRefusal, not_quotient, bare_parameter, Addition, Registration, corr_registered, property_registered, domain_registered, rule_registered, quotient_registered}
-use Rattle.lt_transport_definitions.specs.Labels.{corr_name, quotient_label, right_total_label, right_unique_label, rel_label, domain_label}
+use Rattle.lt_transport_definitions.specs.Commands.{CommandRefusal, because, Addition, Registration, corr_registered, property_registered, domain_registered, rule_registered, quotient_registered}
 use Rattle.lt_transport_definitions.specs.Rows.{lemma_of}
 
 -- What a quotient's theorem says: the raw and the abstract type, and the four terms.
@@ -44,7 +45,6 @@ abbrev pub corr_form_of : Signature → TermTree → Option Correspondence
 corr_form_of sig t =
     option_and_then (correspondence_form (constant_name t)) (declared_type sig (constant_name t))
 
--- the type constructors in a type
 abbrev mutual
   pub constructors_in : TypeTree → List Chars
   constructors_in (type_variable a) = []
@@ -65,37 +65,27 @@ is_in_order sig raw abs =
     list_all (λ c. comes_before c (constructor_name abs) (map (λ p. p.0) sig.types))
     (constructors_in raw)
 
--- whether a type is a variable
 abbrev pub is_variable : TypeTree → Bool
 is_variable (type_variable a) = true
 is_variable (type_constructor c ts) = false
 
 -- the refusal of a raw type that is a variable
 abbrev pub bare_test : TypeTree → Option CommandRefusal
-bare_test raw = wrong_where (is_variable raw) (bare_parameter raw)
+bare_test raw = wrong_where (is_variable raw) (because "BareParameter" (printed_type raw ∷ []))
 
--- the refusal of a part that fails
-abbrev pub quotient_test : Bool → QuotientPart → Option CommandRefusal
+-- the refusal of a theorem that fails a test
+abbrev pub not_quotient : String → CommandRefusal
+not_quotient part = because "NotQuotient" (codes part ∷ [])
+
+abbrev pub quotient_test : Bool → String → Option CommandRefusal
 quotient_test holds part = wrong_where (not holds) (not_quotient part)
 
--- the entry of a theorem with this label
-abbrev pub entry_of_theorem : Chars → QuotientTheorem → QuotientEntry
-entry_of_theorem l t =
+-- the entry of a quotient, with the label of its theorem
+abbrev pub entry_between : Chars → (raw abs : TypeTree) → Four → (of_typedef : Bool) → QuotientEntry
+entry_between l raw abs four of_typedef =
     record {
-      con = constructor_name t.abs;
+      con = constructor_name abs;
       label = l;
-      abs_type = t.abs;
-      raw_type = t.raw;
-      four = t.four;
-      of_typedef = false;
-    }
-
--- the entry of a quotient whose theorem the block adds
-abbrev pub new_entry : Chars → (raw abs : TypeTree) → Four → Bool → QuotientEntry
-new_entry q raw abs four of_typedef =
-    record {
-      con = q;
-      label = quotient_label q;
       abs_type = abs;
       raw_type = raw;
       four = four;
@@ -109,11 +99,11 @@ self_related raw R = lambda "x" raw λ x. R · x · x
 -- The lemmas of a tail block, given what its domain is.
 abbrev pub tail_block : QuotientEntry → WithType → List Addition
 tail_block e domain = let T : WithType = e.four.corr in
-    lemma_of (right_total_label e.con) (apply "right_total" (T ∷ []))
-    ∷ lemma_of (right_unique_label e.con) (apply "right_unique" (T ∷ []))
-    ∷ lemma_of (rel_label e.con)
+    lemma_of (e.con ++ codes "_right_total") (apply "right_total" (T ∷ []))
+    ∷ lemma_of (e.con ++ codes "_right_unique") (apply "right_unique" (T ∷ []))
+    ∷ lemma_of (e.con ++ codes "_rel")
     (rel_fun T (rel_fun T (equality_at bool)) · e.four.rel · equality_at e.abs_type)
-    ∷ lemma_of (domain_label e.con) (domainp T ≐ domain) ∷ []
+    ∷ lemma_of (e.con ++ codes "_domain") (domainp T ≐ domain) ∷ []
 
 -- a property of the correspondence, by a lemma without premises
 abbrev pub corr_property : Chars → Property → QuotientEntry → Registration
@@ -127,11 +117,11 @@ abbrev pub tail_registrations : QuotientEntry → Correspondence → WithType �
 tail_registrations e d domain =
     corr_registered d
     ∷ quotient_registered e
-    ∷ corr_property (right_total_label e.con) right_total e
-    ∷ corr_property (right_unique_label e.con) right_unique e
-    ∷ rule_registered (rel_label e.con)
+    ∷ corr_property (e.con ++ codes "_right_total") (codes "right_total") e
+    ∷ corr_property (e.con ++ codes "_right_unique") (codes "right_unique") e
+    ∷ rule_registered (e.con ++ codes "_rel")
     ∷ domain_registered (record {
-      label = domain_label e.con;
+      label = e.con ++ codes "_domain";
       head = constant_name e.four.corr.term;
       variables = [];
       type_arguments = types_names (row (constant_types_of e.four.corr.term));
@@ -142,7 +132,7 @@ tail_registrations e d domain =
 abbrev pub new_corr : QuotientEntry → Correspondence
 new_corr e =
     record {
-      name = corr_name e.con;
+      name = codes "cr_" ++ e.con;
       raw = e.raw_type;
       con = e.con;
       parameters = type_variables e.abs_type;

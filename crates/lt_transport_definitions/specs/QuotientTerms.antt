@@ -30,7 +30,6 @@ four_at e ts = let m : TypeMap = entry_map e ts in record {
 abbrev pub abs_type_of : Four → TypeTree
 abs_type_of q = domain_type q.rep.ty
 
--- the raw type
 abbrev pub raw_type_of : Four → TypeTree
 raw_type_of q = domain_type q.abs.ty
 
@@ -86,7 +85,6 @@ composed_four q r = record {
   corr = relcompp q.corr r.corr;
 }
 
--- The four terms of a quotient.
 abbrev mutual
   pub four_of : Registry → Quot → Four
   four_of G (identity_quotient t) = identity_four t

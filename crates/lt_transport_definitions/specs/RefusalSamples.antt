@@ -2,19 +2,17 @@
 -- Source: this project's own.
 use Rattle.std.specs.Prelude.{List, [], ◌∷◌, ◌++◌, codes, false}
 use Rattle.lt_definitions.specs.Samples.{nat, tyvar, con}
-use Rattle.lt_definitions.specs.Types.{TypeTree, bool}
+use Rattle.lt_definitions.specs.Types.{Chars, TypeTree, bool}
 use Rattle.lt_definitions.specs.Terms.{falsity}
 use Rattle.lt_definitions.specs.Items.{Item, type_item, const_item, axiom_item, empty, context_of}
 use Rattle.lt_definitions.specs.Typing.{Signature}
 use Rattle.lt_transport_definitions.specs.Notation.{WithType, ◌⇒◌, ◌~◌}
-use Rattle.lt_transport_definitions.specs.Constants.{table_type}
 use Rattle.lt_transport_definitions.specs.Relations.{Correspondence, Parametrised, Registry}
 use Rattle.lt_transport_definitions.specs.RelatorForm.{equality_statement, quotient_statement, composition_statement, relator_type, mapping_type}
 use Rattle.lt_transport_definitions.specs.Search.{equal}
 use Rattle.lt_transport_definitions.specs.Reduction.{as_printed}
-use Rattle.lt_transport_definitions.specs.Laws.{relcompp_eq_left}
 use Rattle.lt_transport_definitions.specs.LawTexts.{laws_of_lifting, laws_of_lift}
-use Rattle.lt_transport_definitions.specs.Sessions.{QuotientEntry, Session, new_session}
+use Rattle.lt_transport_definitions.specs.Sessions.{QuotientEntry, Session}
 use Rattle.lt_transport_definitions.specs.QuotientTerms.{four_at}
 use Rattle.lt_transport_definitions.specs.Commands.{relator_registered, Block, with_registration, session_behind}
 use Rattle.lt_transport_definitions.specs.Rows.{Row, adds}
@@ -23,7 +21,7 @@ use Rattle.lt_transport_definitions.specs.QuotientBlocks.{self_related, tail_blo
 use Rattle.lt_transport_definitions.specs.QuotientRows.{typedef_entry, adds_typedef_quotient}
 use Rattle.lt_transport_definitions.specs.LiftRows.{adds_lifted}
 use Rattle.lt_transport_definitions.specs.ParamRows.{form_body, adds_form}
-use Rattle.lt_transport_definitions.specs.Samples.{session_over, behind_items, with_laws, over_typedef_t, list_relator}
+use Rattle.lt_transport_definitions.specs.Samples.{session_over, with_laws, over_typedef_t, list_relator}
 pub use Rattle.lt_transport_definitions.specs.BoxSamples.{cup, box, box_theory, over_boxes, lawless_boxes, over_correspondence}
 use Rattle.lt_transport_definitions.specs.BoxSamples.{given_constant, arr, declares, four_declared, cup_four, arr_four, box_correspondence}
 
@@ -81,15 +79,19 @@ arr_entry = record {
   of_typedef = false;
 }
 
--- the session with it
-abbrev pub over_quotient_of_arr : Session
-over_quotient_of_arr = session_behind over_boxes (lifting_block arr_entry
-    (record {
+-- its correspondence
+abbrev pub arr_correspondence : Correspondence
+arr_correspondence =
+    record {
       name = codes "Ta";
       raw = nat ⇒ tyvar "a";
       con = codes "arr";
       parameters = codes "a" ∷ [];
-    }))
+    }
+
+-- the session with it
+abbrev pub over_quotient_of_arr : Session
+over_quotient_of_arr = session_behind over_boxes (lifting_block arr_entry arr_correspondence)
 
 -- and with its parametrised form
 abbrev pub over_form : Session
@@ -109,17 +111,23 @@ over_quotient_of_t = let P : WithType = record { term = con "P"; ty = nat ⇒ bo
       rep = codes "rep_t";
     }) P) P))
 
--- lists, and the three statements of their relator
+-- the type of a relator of lists
+abbrev pub list_relator_type : TypeTree
+list_relator_type = relator_type (codes "list") (tyvar "a" ∷ []) (tyvar "b" ∷ [])
+
+-- the mapping of lists, and the three statements of a relator of theirs with this name
+abbrev pub list_statements : Chars → List Item
+list_statements R =
+    const_item (codes "map") (mapping_type (codes "list") (tyvar "a" ∷ []) (tyvar "b" ∷ []))
+    ∷ axiom_item (codes "list_eq") (equality_statement (codes "list") R (tyvar "a" ∷ [])).term
+    ∷ axiom_item (codes "list_quotient")
+    (quotient_statement (codes "list") R (codes "map") (1 ∷ [])).term
+    ∷ axiom_item (codes "list_comp") (composition_statement (codes "list") R (1 ∷ [])).term ∷ []
+
+-- lists with a relator
 abbrev pub list_items : List Item
 list_items = type_item (codes "list") 1 ∷ type_item (codes "other") 1
-    ∷ const_item (codes "list_all2") (relator_type (codes "list") (tyvar "a" ∷ []) (tyvar "b" ∷ []))
-    ∷ const_item (codes "map") (mapping_type (codes "list") (tyvar "a" ∷ []) (tyvar "b" ∷ []))
-    ∷ axiom_item (codes "list_eq")
-    (equality_statement (codes "list") (codes "list_all2") (tyvar "a" ∷ [])).term
-    ∷ axiom_item (codes "list_quotient")
-    (quotient_statement (codes "list") (codes "list_all2") (codes "map") (1 ∷ [])).term
-    ∷ axiom_item (codes "list_comp")
-    (composition_statement (codes "list") (codes "list_all2") (1 ∷ [])).term ∷ []
+    ∷ const_item (codes "list_all2") list_relator_type ∷ list_statements (codes "list_all2")
 
 -- the session over these
 abbrev pub over_lists : Session
@@ -146,24 +154,3 @@ parametrised_signature =
 -- and T registered
 abbrev pub parametrised_registry : Registry
 parametrised_registry = over_correspondence.registry
-
--- relcompp with a type, and the law that eq is its left unit
-abbrev pub relcompp_items : TypeTree → List Item
-relcompp_items ty =
-    const_item (codes "relcompp") ty ∷ axiom_item (codes "l") relcompp_eq_left.term ∷ []
-
--- relcompp's own type
-abbrev pub relcompp_type : TypeTree
-relcompp_type = table_type (codes "relcompp")
-
--- with its own type
-abbrev pub over_relcompp : Session
-over_relcompp = behind_items (new_session 100) (relcompp_items relcompp_type)
-
--- another type, over which the law has its type too
-abbrev pub other_relcompp_type : TypeTree
-other_relcompp_type = (tyvar "a" ~ tyvar "b") ⇒ (tyvar "a" ~ tyvar "c") ⇒ (tyvar "b" ~ tyvar "c")
-
--- with that type
-abbrev pub over_other_relcompp : Session
-over_other_relcompp = behind_items (new_session 100) (relcompp_items other_relcompp_type)

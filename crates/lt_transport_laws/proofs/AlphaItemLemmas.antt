@@ -17,6 +17,8 @@ use Rattle.lt_nameless.proofs.AlphaLaws.{alpha_is_reflexive, alpha_is_symmetric,
 use Rattle.lt_nameless.proofs.AlphaSteps.{step_respects_alpha}
 use Rattle.lt_nameless.proofs.BooleanSteps.{typed-alpha}
 use Rattle.lt_nameless.proofs.Refusals.{accepted_is_valid}
+use Rattle.lt_transport_definitions.specs.Commands.{Addition, this_item, a_lemma}
+use Rattle.lt_transport_definitions.specs.Blocks.{IsItemOf, AreItemsOf}
 use Rattle.lt_transport_definitions.specs.AlphaItems.{IsAlphaEqualItem, AreAlphaEqualRules}
 use Rattle.lt_transport_laws.specs.OrderStatements.{AreAlphaEqualContexts}
 use Rattle.lt_transport_laws.proofs.Deciding.{decide_name}
@@ -326,3 +328,24 @@ valid-alpha c d e (item ∷ items) h = (
   valid-one c d e item h.0,
   valid-alpha (with_item c item) (with_item d item) (adds-alpha c d e item item (item-same item)) items h.1,
 )
+
+-- the item is what is added, up to alpha equality
+abbrev pub IsAlikeItemOf : Addition → Item → Type 0
+IsAlikeItemOf (this_item i) item = IsAlphaEqualItem i item
+IsAlikeItemOf (a_lemma l t) item = (lines : List (Rule TermTree)) × IsAlphaEqualItem (lemma_item l t lines) item
+
+abbrev pub AreAlikeItemsOf : List Addition → List Item → Type 0
+AreAlikeItemsOf [] [] = Unit {0}
+AreAlikeItemsOf (a ∷ additions) (item ∷ items) = IsAlikeItemOf a item × AreAlikeItemsOf additions items
+AreAlikeItemsOf _ _ = ⊥
+
+item-alike : (a : Addition) (item : Item) → IsItemOf a item → IsAlikeItemOf a item
+item-alike (this_item i) item h = subst (IsAlphaEqualItem i) (sym h) (item-same i)
+item-alike (a_lemma l t) item h = (h.0, subst (IsAlphaEqualItem (lemma_item l t h.0)) (sym h.1) (item-same (lemma_item l t h.0)))
+
+-- the items of a block are such
+pub items-alike : (additions : List Addition) (items : List Item) → AreItemsOf additions items → AreAlikeItemsOf additions items
+items-alike [] [] h = tt
+items-alike [] (item ∷ items) h = absurd h
+items-alike (a ∷ additions) [] h = absurd h
+items-alike (a ∷ additions) (item ∷ items) h = (item-alike a item h.0, items-alike additions items h.1)

@@ -3,7 +3,7 @@ use Rattle.std.specs.Prelude.{◌≡◌, ◌⊎◌, ℕ, zero, suc, List, [], �
 use Rattle.std.specs.Fmt.{digits}
 use Rattle.std.proofs.Common.{refl, subst, sym, ap, ◌∙◌, inl, inr, arith}
 use Rattle.lt_definitions.specs.Types.{bool}
-use Rattle.lt_transport_definitions.specs.Relations.{Relation, equality, bi_total, built_in_registry}
+use Rattle.lt_transport_definitions.specs.Relations.{Relation, equality, built_in_registry}
 use Rattle.lt_transport_definitions.specs.Expressions.{function_relator, implication}
 use Rattle.lt_transport_definitions.specs.Below.{Side}
 use Rattle.lt_transport_definitions.specs.RuleForm.{TransferRule}
@@ -134,7 +134,7 @@ some-same : (b r : Relation) → ◌≡◌ {A = Option Relation} (Some b) (Some 
 some-same b r e = cc
 
 -- cr_t has no rule for bi_total
-not-bi-total : Side registry_t relation_t bi_total → ⊥
+not-bi-total : Side registry_t relation_t (codes "bi_total") → ⊥
 unfolding digits
 not-bi-total (inl e) = cc
 not-bi-total (inr h) = h
@@ -146,7 +146,7 @@ no-total ([], v) e h c = absurd h.0.0
 no-total (a ∷ w ∷ vs, v) e h c = absurd h.0.0.2
 no-total (a ∷ [], v) e h c =
     let k = variable-is a v.0 c.1.0 c.0 c.1.2.0 e c.1.1 (some-same v.0 c.1.2.0 c.1.2.1) c.1.2.2 (equality bool) c.2 in
-    not-bi-total (subst (λ (r : Relation). Side registry_t r bi_total) k.0 h.0.1.0)
+    not-bi-total (subst (λ (r : Relation). Side registry_t r (codes "bi_total")) k.0 h.0.1.0)
 
 only-implied : (v : Assignment (chosen_by 1 rule_implies)) (e : Relation) → IsAssignment registry_t question_bounded.signature (chosen_by 1 rule_implies) v
     → Corresponds registry_t question_bounded.signature [] (chosen_by 1 rule_implies) v e → e ≡ implication

@@ -1,5 +1,5 @@
 -- The label of what is registered by a form is that of its statement.
-use Rattle.std.specs.Prelude.{◌≡◌, Bool, true, false, Option, Some, None, Result, Ok, option_and_then, if◌then◌else◌}
+use Rattle.std.specs.Prelude.{◌≡◌, Bool, true, false, Option, Some, None, Result, Ok, option_and_then, if◌then◌else◌, codes}
 use Rattle.std.specs.List.{list_all}
 use Rattle.std.proofs.Common.{refl, subst, sym, ap}
 use Rattle.lt_definitions.specs.Types.{Chars, has_name}
@@ -9,22 +9,22 @@ use Rattle.lt_definitions.specs.Rules.{as_equation}
 use Rattle.lt_transport_definitions.specs.Relations.{Registry, PropertyRule, DomainRule}
 use Rattle.lt_transport_definitions.specs.Answers.{needs}
 use Rattle.lt_transport_definitions.specs.Reading.{body_of, prefix_of}
-use Rattle.lt_transport_definitions.specs.Forms.{PropertyPart, property_prefix, property_premise, property_head, premises_of, conclusion_of, all_sides, property_of_head, property_form, domain_head, domain_equation, domain_form}
+use Rattle.lt_transport_definitions.specs.Forms.{premises_of, conclusion_of, all_sides, property_of_head, property_form, domain_head, domain_equation, domain_form}
 
 -- what is said of a rule holds where nothing is wrong before it
-needs-holds : {A : Type 0} (P : PropertyRule → Type 0) (o : Option A) (e : PropertyPart) (f : A → Result PropertyRule PropertyPart)
+needs-holds : {A : Type 0} (P : PropertyRule → Type 0) (o : Option A) (e : Chars) (f : A → Result PropertyRule Chars)
     → ((x : A) (r : PropertyRule) → f x ≡ Ok r → P r) → (r : PropertyRule) → needs o e f ≡ Ok r → P r
 needs-holds P (Some x) e f h r k = h x r k
 needs-holds P None e f h r k = absurd (cc)
 
-ok-same : (x r : PropertyRule) → ◌≡◌ {A = Result PropertyRule PropertyPart} (Ok x) (Ok r) → x ≡ r
+ok-same : (x r : PropertyRule) → ◌≡◌ {A = Result PropertyRule Chars} (Ok x) (Ok r) → x ≡ r
 ok-same x r e = cc
 
 pub property-label : (sig : Signature) (G : Registry) (l : Chars) (t : TermTree) (rule : PropertyRule) → property_form sig G l t ≡ Ok rule → rule.label ≡ l
 property-label sig G l t rule h =
-    needs-holds (λ r. r.label ≡ l) (prefix_of t) property_prefix _ (λ xs.
-    needs-holds (λ r. r.label ≡ l) (all_sides sig xs (premises_of (body_of t))) property_premise _ (λ sides.
-    needs-holds (λ r. r.label ≡ l) (property_of_head sig G xs (conclusion_of (body_of t))) property_head _ (λ found r e.
+    needs-holds (λ r. r.label ≡ l) (prefix_of t) (codes "Prefix") _ (λ xs.
+    needs-holds (λ r. r.label ≡ l) (all_sides sig xs (premises_of (body_of t))) (codes "Premise") _ (λ sides.
+    needs-holds (λ r. r.label ≡ l) (property_of_head sig G xs (conclusion_of (body_of t))) (codes "Head") _ (λ found r e.
     sym (ap (λ (q : PropertyRule). q.label) (ok-same _ r e))))) rule h
 
 then-holds : {A : Type 0} (P : DomainRule → Type 0) (f : A → Option DomainRule) (o : Option A) → ((x : A) (r : DomainRule) → f x ≡ Some r → P r)

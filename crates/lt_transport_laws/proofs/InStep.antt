@@ -1,22 +1,23 @@
 -- A session in step gives one in step.
-use Rattle.std.specs.Prelude.{◌≡◌, ◌⊎◌, List, [], ◌∷◌, ◌++◌, ◌&&◌, Option, Some, None, map, fold, option_map, option_to_list, is_some}
+use Rattle.std.specs.Prelude.{◌≡◌, ◌⊎◌, List, [], ◌∷◌, ◌++◌, ◌&&◌, Option, Some, None, map, fold, option_map, option_to_list, is_some, codes}
 use Rattle.std.specs.List.{flat_map}
 use Rattle.std.proofs.Common.{refl, subst, sym, ap, ◌∙◌, inl, inr}
 use Rattle.lt_definitions.specs.Types.{Chars, same_name, TypeTree}
 use Rattle.lt_definitions.specs.Terms.{TermTree}
 use Rattle.lt_definitions.specs.Items.{def_item, Context}
 use Rattle.lt_transport_definitions.specs.Notation.{WithType, ◌·◌}
-use Rattle.lt_transport_definitions.specs.Relations.{Relator, PropertyRule, DomainRule, same_property}
+use Rattle.lt_transport_definitions.specs.Relations.{Relator, PropertyRule, DomainRule}
 use Rattle.lt_transport_definitions.specs.Answers.{value_of, first_wrong}
 use Rattle.lt_transport_definitions.specs.RuleForm.{TransferRule, rule_form}
 use Rattle.lt_transport_definitions.specs.Sessions.{Four, QuotientEntry, Session, signature_of, statement_at}
-use Rattle.lt_transport_definitions.specs.Commands.{Command, item_command, law_command, corr_command, relator_command, property_command, domain_command, rule_command, lifting_command, lifting_typedef_command, quotient_type_command, lift_command, parametric_command, param_rule_command, equiv_command, implies_command, carry_command, abs_eq_command, rep_eq_command, Addition, this_item, Registration, law_registered, corr_registered, relator_registered, form_registered, property_registered, domain_registered, rule_registered, quotient_registered, lifted_registered, transport_registered, Block, with_addition, with_registration, session_behind}
+use Rattle.lt_texts.specs.Commands.{Command, item_command, law_command, corr_command, relator_command, property_command, domain_command, rule_command, lifting_command, lifting_typedef_command, quotient_type_command, lift_command, parametric_command, param_rule_command, equiv_command, implies_command, carry_command, abs_eq_command, rep_eq_command}
+use Rattle.lt_transport_definitions.specs.Commands.{Addition, this_item, Registration, law_registered, corr_registered, relator_registered, form_registered, property_registered, domain_registered, rule_registered, quotient_registered, lifted_registered, transport_registered, Block, with_addition, with_registration, session_behind}
 use Rattle.lt_transport_definitions.specs.QuotientTerms.{four_of}
-use Rattle.lt_transport_definitions.specs.Labels.{transfer_label}
 use Rattle.lt_transport_definitions.specs.Rows.{lemma_of, declared_constant, with_its_type}
 use Rattle.lt_transport_definitions.specs.LiftRows.{adds_lifted}
 use Rattle.lt_transport_definitions.specs.Parts.{tests_before}
-use Rattle.lt_transport_definitions.specs.Blocks.{row_of, ComesOfRow}
+use Rattle.lt_transport_definitions.specs.Table.{row_of}
+use Rattle.lt_transport_definitions.specs.Blocks.{ComesOfRow}
 use Rattle.lt_transport_laws.specs.SessionStatements.{IsStated, AreStated, relator_labels, form_labels, lifted_labels, IsInStep, SessionsStayInStep}
 use Rattle.lt_transport_laws.proofs.RowLemmas.{comes-unless}
 use Rattle.lt_transport_laws.proofs.RowFacts.{EachBlock, comes-block}
@@ -99,7 +100,7 @@ registers ctx s (form_registered p) h k = record {
   transports = h.transports;
 }
 registers ctx s (property_registered r) h k = record {
-  properties = unless-one ctx (λ (q : PropertyRule). q.label) (λ e. same_property r.property e.property && same_name r.head e.head) s.registry.property_rules r h.properties k.0;
+  properties = unless-one ctx (λ (q : PropertyRule). q.label) (λ e. same_name r.property e.property && same_name r.head e.head) s.registry.property_rules r h.properties k.0;
   laws = h.laws;
   relators = h.relators;
   forms = h.forms;
@@ -263,16 +264,17 @@ lifted-known : (s : Session) (n : Chars) (ty : TypeTree) (t : WithType) (l : Cha
     → EachBlock (Registers s) (adds_lifted s n ty t l four)
 lifted-known s n ty t l four h =
     let transfer : WithType = four.corr · t · declared_constant n ty in
-    let items : List Addition = this_item (def_item n ty ((four.abs · t).term)) ∷ lemma_of (transfer_label n) transfer ∷ [] in (
+    let items : List Addition = this_item (def_item n ty ((four.abs · t).term)) ∷ lemma_of (n ++ codes "_transfer") transfer ∷ [] in (
       (inr (inl refl), (inl h, (inr (inr (inl refl)), tt))),
-      optional-rule s items (transfer_label n) (value_of (rule_form (signature_of s) s.registry (transfer_label n) transfer.term)) (inr (inr (inl refl))),
+      optional-rule s items (n ++ codes "_transfer") (value_of (rule_form (signature_of s) s.registry (n ++ codes "_transfer") transfer.term)) (inr (inr (inl refl))),
     )
 
 in-rows : (s : Session) (c : Command) → EachBlock (Registers s) (row_of s c)
 in-rows s (item_command i) = λ e. tt
 in-rows s (law_command w l) = λ t e law f n. ((found-known s [] l t e, tt), tt)
 in-rows s (corr_command c) = λ x e n. (tt, tt)
-in-rows s (relator_command r) = λ eq e quot f comp g x h n m.
+in-rows s (relator_command K R M E Q O) = λ eq e quot f comp g x h n m.
+    let r : Relator = record { con = K; rel = R; mapping = M; eq = E; quot = Q; comp = O } in
     subst (λ (y : Relator). AreAllKnown s [] (relator_registered y ∷ [])) (sym (form-same (signature_of s) r eq quot comp x h))
     ((found-known s [] r.eq eq e, (found-known s [] r.quot quot f, (found-known s [] r.comp comp g, tt))), tt)
 in-rows s (property_command l) = λ t e rule f n.

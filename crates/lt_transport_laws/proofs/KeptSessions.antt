@@ -1,18 +1,17 @@
--- The sessions to which commands lead, and the one end of a run.
+-- The sessions to which commands lead.
 use Rattle.std.specs.Prelude.{◌≡◌, List, [], ◌∷◌, fold, codes}
-use Rattle.std.proofs.Common.{refl, sym, ◌∙◌, subst}
+use Rattle.std.proofs.Common.{refl, sym, subst}
 use Rattle.lt_transport_definitions.specs.Answers.{first_wrong}
-use Rattle.lt_transport_definitions.specs.Sessions.{Session, new_session}
-use Rattle.lt_transport_definitions.specs.Commands.{Command, Addition, with_addition}
+use Rattle.lt_transport_definitions.specs.Sessions.{Session}
+use Rattle.lt_transport_definitions.specs.Commands.{Addition, with_addition}
 use Rattle.lt_transport_definitions.specs.Parts.{tests_before}
-use Rattle.lt_transport_definitions.specs.Blocks.{row_of, ComesOfRow}
-use Rattle.lt_transport_definitions.specs.TheoryWalks.{Placed, header_wrong, has_commands}
+use Rattle.lt_transport_definitions.specs.Table.{row_of}
+use Rattle.lt_transport_definitions.specs.Blocks.{ComesOfRow}
 use Rattle.lt_transport_laws.specs.Statements.{IsRegistry}
-use Rattle.lt_transport_laws.specs.SessionStatements.{AreScopedDomains, AreScopedAlong, IsInStep}
-use Rattle.lt_transport_laws.specs.KeptStatements.{IsKeptSession, NewSessionsAreKept, SessionsAreKept, KeptSessionsAreScoped, KeptStatementsAreBoolean, RunsHaveOneEnd}
+use Rattle.lt_transport_laws.specs.SessionStatements.{AreScopedDomains, IsInStep}
+use Rattle.lt_transport_laws.specs.KeptStatements.{NewSessionsAreKept, SessionsAreKept, KeptSessionsAreScoped, KeptStatementsAreBoolean}
 use Rattle.lt_transport_laws.proofs.BuiltIn.{built-in}
 use Rattle.lt_transport_laws.proofs.InStep.{stay-in-step}
-use Rattle.lt_transport_laws.proofs.OneWalk.{walk-one}
 use Rattle.lt_transport_laws.proofs.OrderedSessions.{new-ordered, stay-ordered}
 use Rattle.lt_transport_laws.proofs.RegistriesStay.{stay-sound}
 use Rattle.lt_transport_laws.proofs.RowFacts.{comes-block}
@@ -67,12 +66,3 @@ kept-scoped s h = record { registry = h.registry; statements = theory-scoped s h
 
 pub kept-boolean : KeptStatementsAreBoolean
 kept-boolean s l p h e = theory-stated s h.ordered.theory l p e
-
-along : (s : Session) → IsKeptSession s → (cs : List (Placed Command)) → AreScopedAlong s cs
-along s h [] = tt
-along s h (c ∷ cs) = (kept-scoped s h, λ items later g. along later (stay-kept s c.command items later h g) cs)
-
-pub runs-one : RunsHaveOneEnd
-runs-one limit (header_wrong why place) blocks others end other h k = h.1 ∙ sym k.1
-runs-one limit (has_commands cs wrong) blocks others end other h k =
-    walk-one (new_session limit) cs wrong blocks others end other (along (new_session limit) (new-kept limit) cs) h k

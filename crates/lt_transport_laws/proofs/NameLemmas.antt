@@ -1,9 +1,11 @@
 -- The names that are tested before a row are those that its block adds.
 use Rattle.lt_transport_definitions.specs.Answers.{first_wrong}
 use Rattle.lt_transport_definitions.specs.Sessions.{Session}
-use Rattle.lt_transport_definitions.specs.Commands.{Command, item_command, law_command, corr_command, relator_command, property_command, domain_command, rule_command, lifting_command, lifting_typedef_command, quotient_type_command, lift_command, parametric_command, param_rule_command, equiv_command, implies_command, carry_command, abs_eq_command, rep_eq_command, Addition, item_of}
+use Rattle.lt_texts.specs.Commands.{Command, item_command, law_command, corr_command, relator_command, property_command, domain_command, rule_command, lifting_command, lifting_typedef_command, quotient_type_command, lift_command, parametric_command, param_rule_command, equiv_command, implies_command, carry_command, abs_eq_command, rep_eq_command}
+use Rattle.lt_transport_definitions.specs.Commands.{Addition, item_of}
 use Rattle.lt_transport_definitions.specs.Parts.{tests_before, names_added}
-use Rattle.lt_transport_definitions.specs.Blocks.{row_of, ComesOfRow}
+use Rattle.lt_transport_definitions.specs.Table.{row_of}
+use Rattle.lt_transport_definitions.specs.Blocks.{ComesOfRow}
 use Rattle.std.proofs.Common.{◌≡◌, false, List, refl}
 use Rattle.std.specs.List.{flat_map}
 use Rattle.lt_transport_laws.specs.Statements.{names_of_item, tests_own_names, NamesAreAdded}
@@ -16,7 +18,7 @@ names-rows : (s : Session) (c : Command) → Each (Added c) (row_of s c)
 names-rows s (item_command i) = λ h. absurd (cc)
 names-rows s (law_command w l) = λ t law h. refl
 names-rows s (corr_command c) = λ d h. refl
-names-rows s (relator_command r) = λ eq quot comp x h. refl
+names-rows s (relator_command K R M E Q O) = λ eq quot comp x h. refl
 names-rows s (property_command l) = λ t rule h. refl
 names-rows s (domain_command l) = λ t rule h. refl
 names-rows s (rule_command l) = λ t rule h. refl

@@ -1,4 +1,5 @@
 -- One outcome comes of each transport.
+use Rattle.std.specs.Fmt.{decimal}
 use Rattle.std.specs.Prelude.{◌≡◌, ℕ, zero, suc, List, [], ◌∷◌, ◌++◌, codes, Bool, true, false, ◌||◌, ◌&&◌, not, Option, Some, None, Result, Ok, Err, map, filter, slice_get}
 use Rattle.std.specs.List.{zip}
 use Rattle.std.proofs.Common.{refl, subst, sym, ap, ◌∙◌, inl, inr, arith}
@@ -21,10 +22,11 @@ use Rattle.lt_transport_definitions.specs.Correspondence.{ChosenStatement, chose
 use Rattle.lt_transport_definitions.specs.Search.{Top, equal, implied, Question, HasImage}
 use Rattle.lt_transport_definitions.specs.Reduction.{as_printed}
 use Rattle.lt_transport_definitions.specs.Sessions.{Session, rules_now}
-use Rattle.lt_transport_definitions.specs.Commands.{item_command, law_command, corr_command, relator_command, property_command, domain_command, rule_command, lifting_command, lifting_typedef_command, quotient_type_command, lift_command, parametric_command, param_rule_command, equiv_command, implies_command, carry_command, abs_eq_command, rep_eq_command, CommandRefusal, norm_limit, Addition, a_lemma, Registration, transport_registered}
+use Rattle.lt_texts.specs.Commands.{item_command, law_command, corr_command, relator_command, property_command, domain_command, rule_command, lifting_command, lifting_typedef_command, quotient_type_command, lift_command, parametric_command, param_rule_command, equiv_command, implies_command, carry_command, abs_eq_command, rep_eq_command}
+use Rattle.lt_transport_definitions.specs.Commands.{CommandRefusal, because, Addition, a_lemma, Registration, transport_registered}
 use Rattle.lt_transport_definitions.specs.Rows.{BlockOutcome, Row, ◌⊳◌, with_image, with_normal_form, adds, item_test, law_test}
 use Rattle.lt_transport_definitions.specs.Parts.{registration_test, name_test, names_added}
-use Rattle.lt_transport_definitions.specs.TransportRows.{question_of, laws_asked, size_test, transported, is_implied, adds_transport, transport_row}
+use Rattle.lt_transport_definitions.specs.TransportRows.{question_of, laws_asked, size_test, transported, adds_transport, transport_row}
 use Rattle.lt_transport_definitions.specs.Blocks.{Unless, ComesOfRow}
 use Rattle.lt_transport_laws.specs.Statements.{IsRegistry}
 use Rattle.lt_transport_laws.specs.SessionStatements.{AreScopedDomains, IsScopedSession, EachOutcomeIsOne}
@@ -124,7 +126,7 @@ one-normal : (s : Session) (t : TermTree) (rest : TermTree → Row) → HasNoLoo
     → IsOne (ComesOfRow s (with_normal_form t rest))
 one-normal s t rest l h o p x y = elim x [
   | inl a ↦ elim y [
-    | inl b ↦ a.2 ∙ ap (λ k. Err (norm_limit k)) (limits-one t a.0 b.0 a.1 b.1) ∙ sym b.2
+    | inl b ↦ a.2 ∙ ap (λ k. Err (because "NormLimit" (decimal k ∷ []))) (limits-one t a.0 b.0 a.1 b.1) ∙ sym b.2
     | inr b ↦ absurd (normal-or-limit t b.0 a.0 l b.1 a.1)
   ]
   | inr a ↦ elim y [
@@ -140,7 +142,7 @@ one-adds s items registered o p x y = x ∙ sym y
 
 one-block : (s : Session) (n : Chars) (top : Top) (t u : TermTree) → IsOne (ComesOfRow s (adds_transport n top t u))
 one-block s n top t u = one-adds s (a_lemma n (transported top u t) ∷ [])
-    (transport_registered (record { label = n; given = t; image = u; implied = is_implied top }) ∷ [])
+    (transport_registered (record { label = n; given = t; image = u; top = top }) ∷ [])
 
 one-row : (s : Session) (n : Chars) (top : Top) (t : TermTree) → IsScopedSession s → HasNoLooseNames t → IsOne (ComesOfRow s (transport_row s n top t))
 one-row s n top t h l =
@@ -175,7 +177,7 @@ each-one s (implies_command n t) o p h = one-transport s n implied t (registrati
 each-one s (item_command i) o p h = outcomes-one s (item_command i) o p refl
 each-one s (law_command w l) o p h = outcomes-one s (law_command w l) o p refl
 each-one s (corr_command c) o p h = outcomes-one s (corr_command c) o p refl
-each-one s (relator_command r) o p h = outcomes-one s (relator_command r) o p refl
+each-one s (relator_command K R M E Q O) o p h = outcomes-one s (relator_command K R M E Q O) o p refl
 each-one s (property_command l) o p h = outcomes-one s (property_command l) o p refl
 each-one s (domain_command l) o p h = outcomes-one s (domain_command l) o p refl
 each-one s (rule_command l) o p h = outcomes-one s (rule_command l) o p refl

@@ -1,4 +1,5 @@
 -- A session whose quotients are in order gives one whose quotients are.
+use Prim.Native.String.{String}
 use Rattle.std.specs.Prelude.{◌≡◌, ℕ, List, [], ◌∷◌, ◌++◌, Bool, true, false, ◌&&◌, if◌then◌else◌, Option, Some, None, Result, Ok, Err, fold, length, codes, unwrap_or, option_map, option_to_list}
 use Rattle.std.specs.Result.{result_unwrap_or}
 use Rattle.std.proofs.Common.{refl, sym, ap, ◌∙◌, subst, inl, inr}
@@ -25,16 +26,18 @@ use Rattle.lt_transport_definitions.specs.Constants.{is_counted}
 use Rattle.lt_transport_definitions.specs.Answers.{first_wrong}
 use Rattle.lt_transport_definitions.specs.RuleForm.{TransferRule}
 use Rattle.lt_transport_definitions.specs.Sessions.{Typedef, QuotientEntry, Session, typedef_of}
-use Rattle.lt_transport_definitions.specs.Commands.{Command, item_command, law_command, corr_command, relator_command, property_command, domain_command, rule_command, lifting_command, lifting_typedef_command, quotient_type_command, lift_command, parametric_command, param_rule_command, equiv_command, implies_command, carry_command, abs_eq_command, rep_eq_command, QuotientPart, Addition, this_item, a_lemma, Registration, law_registered, corr_registered, relator_registered, form_registered, property_registered, domain_registered, rule_registered, quotient_registered, lifted_registered, transport_registered, Block, item_of, with_typedef_of, with_addition, with_registration, session_behind}
-use Rattle.lt_transport_definitions.specs.AlphaItems.{IsAlphaEqualItem, IsItemOf, AreItemsOf}
+use Rattle.lt_texts.specs.Commands.{Command, item_command, law_command, corr_command, relator_command, property_command, domain_command, rule_command, lifting_command, lifting_typedef_command, quotient_type_command, lift_command, parametric_command, param_rule_command, equiv_command, implies_command, carry_command, abs_eq_command, rep_eq_command}
+use Rattle.lt_transport_definitions.specs.Commands.{Addition, this_item, a_lemma, Registration, law_registered, corr_registered, relator_registered, form_registered, property_registered, domain_registered, rule_registered, quotient_registered, lifted_registered, transport_registered, Block, item_of, with_typedef_of, with_addition, with_registration, session_behind}
+use Rattle.lt_transport_definitions.specs.AlphaItems.{IsAlphaEqualItem}
 use Rattle.lt_transport_definitions.specs.Parts.{tests_before}
 use Rattle.lt_transport_definitions.specs.QuotientBlocks.{QuotientTheorem, four_between, as_quotient, is_in_order, quotient_test}
 use Rattle.lt_transport_definitions.specs.QuotientRows.{raw_of, typedef_entry, adds_typedef_quotient, is_relation_on_one, class_entry, adds_class_quotient}
 use Rattle.lt_transport_definitions.specs.Rows.{Row, adds, with_its_type}
-use Rattle.lt_transport_definitions.specs.Blocks.{row_of, ComesOfRow}
+use Rattle.lt_transport_definitions.specs.Table.{row_of}
+use Rattle.lt_transport_definitions.specs.Blocks.{ComesOfRow}
 use Rattle.lt_transport_laws.specs.QuotientStatements.{IsInOrder, AreInOrder}
 use Rattle.lt_transport_laws.specs.OrderStatements.{AreAlphaEqualContexts, IsTypedefInOrder, AreTypedefsInOrder, IsOrderedSession, NewSessionsAreOrdered, SessionsStayOrdered, SessionsHaveQuotients}
-use Rattle.lt_transport_laws.proofs.AlphaItemLemmas.{same-statements, valid-alpha}
+use Rattle.lt_transport_laws.proofs.AlphaItemLemmas.{same-statements, valid-alpha, IsAlikeItemOf, AreAlikeItemsOf, items-alike}
 use Rattle.lt_transport_laws.proofs.InStep.{context-kept}
 use Rattle.lt_transport_laws.proofs.OrderLemmas.{Grows, grows-same, grows-refl, grows-trans, nil-behind, order-more, entries-more, typed-kept, typedefs-more, new-in-order}
 use Rattle.lt_transport_laws.proofs.PlainWalks.{one-adds}
@@ -119,12 +122,12 @@ item-ordered s d (typedef_item n xs p l a r) item e h v w o =
       order = new-in-order s.context.signature more n xs (length xs) f.2 f.0 sound f.3;
     })
 
-addition-ordered : (s : Session) (d : Context) (a : Addition) (item : Item) → AreAlphaEqualContexts s.context d → IsItemOf a item → refusal d item ≡ None → IsSound d
+addition-ordered : (s : Session) (d : Context) (a : Addition) (item : Item) → AreAlphaEqualContexts s.context d → IsAlikeItemOf a item → refusal d item ≡ None → IsSound d
     → AreTypedefsInOrder s.context.signature s.typedefs → AreTypedefsInOrder (with_addition s a).context.signature (with_addition s a).typedefs
 addition-ordered s d (this_item i) item e h v w o = item-ordered s d i item e h v w o
 addition-ordered s d (a_lemma l t) item e h v w o = typedefs-more s.context.signature _ s.typedefs (grows-item s.context (lemma_item l t [])) o
 
-additions-ordered : (s : Session) (d : Context) (additions : List Addition) (items : List Item) → AreAlphaEqualContexts s.context d → AreItemsOf additions items
+additions-ordered : (s : Session) (d : Context) (additions : List Addition) (items : List Item) → AreAlphaEqualContexts s.context d → AreAlikeItemsOf additions items
     → AreValid d items → IsSound d → AreTypedefsInOrder s.context.signature s.typedefs
     → AreTypedefsInOrder (fold with_addition s additions).context.signature (fold with_addition s additions).typedefs
 additions-ordered s d [] [] e h v w o = o
@@ -188,7 +191,7 @@ quotients-kept s (a ∷ additions) = quotients-kept (with_addition s a) addition
 
 -- what the tests of a quotient's theorem tell
 
-pub test-holds : (b : Bool) (part : QuotientPart) → quotient_test b part ≡ None → b ≡ true
+pub test-holds : (b : Bool) (part : String) → quotient_test b part ≡ None → b ≡ true
 test-holds true part e = refl
 test-holds false part e = absurd (cc)
 
@@ -309,7 +312,7 @@ raw-sound s d e w r h =
 
 -- the new type of a quotient type comes behind its raw type
 class-order-at : (s : Session) (n : Chars) (p : TermTree) (q : Chars) (params : List Chars) (CP : TermTree) (l a r : Chars) (rest : List Addition) (items : List Item)
-    → AreItemsOf (a_lemma n p ∷ this_item (typedef_item q params CP l a r) ∷ rest) items → AreValid s.context items
+    → AreAlikeItemsOf (a_lemma n p ∷ this_item (typedef_item q params CP l a r) ∷ rest) items → AreValid s.context items
     → (raw : TypeTree) → type_fault s.context.signature raw ≡ None
     → is_in_order (fold with_addition s (a_lemma n p ∷ this_item (typedef_item q params CP l a r) ∷ rest)).context.signature raw (new_type q params) ≡ true
 class-order-at s n p q params CP l a r rest [] h v raw f = absurd h
@@ -323,12 +326,12 @@ class-order-at s n p q params CP l a r rest (i ∷ j ∷ items) h v raw f =
     (new-in-order s.context.signature two.context.signature q params (length params) t.2 raw f t.3)
 
 class-order : (s : Session) (additions : List Addition) (n : Chars) (p : TermTree) (q : Chars) (params : List Chars) (CP : TermTree) (l a r : Chars) (rest : List Addition)
-    → additions ≡ a_lemma n p ∷ this_item (typedef_item q params CP l a r) ∷ rest → (items : List Item) → AreItemsOf additions items → AreValid s.context items
+    → additions ≡ a_lemma n p ∷ this_item (typedef_item q params CP l a r) ∷ rest → (items : List Item) → AreAlikeItemsOf additions items → AreValid s.context items
     → (raw : TypeTree) → type_fault s.context.signature raw ≡ None
     → is_in_order (fold with_addition s additions).context.signature raw (new_type q params) ≡ true
 class-order s additions n p q params CP l a r rest e items h v raw f =
     subst (λ (xs : List Addition). is_in_order (fold with_addition s xs).context.signature raw (new_type q params) ≡ true) (sym e)
-    (class-order-at s n p q params CP l a r rest items (subst (λ (xs : List Addition). AreItemsOf xs items) e h) v raw f)
+    (class-order-at s n p q params CP l a r rest items (subst (λ (xs : List Addition). AreAlikeItemsOf xs items) e h) v raw f)
 
 -- the additions with which a row ends
 abbrev additions_of : Row → List Addition
@@ -363,7 +366,7 @@ entry-more sig more e g h = (entries-more sig more (e ∷ []) g (h, tt)).0
 
 -- what is registered of a block whose items are valid
 abbrev RegistersInOrder : Session → Block → Type 0
-RegistersInOrder s b = (items : List Item) → AreItemsOf b.additions items → AreValid s.context items
+RegistersInOrder s b = (items : List Item) → AreAlikeItemsOf b.additions items → AreValid s.context items
     → AreOrderedRegistrations (fold with_addition s b.additions).context.signature b.registrations
 
 optional-rule : (sig : Signature) (l : Chars) (o : Option TransferRule) → AreOrderedRegistrations sig (option_to_list (option_map (λ rule. rule_registered l) o))
@@ -374,7 +377,7 @@ in-rows : (s : Session) → IsOrderedSession s → (c : Command) → EachBlock (
 in-rows s h (item_command i) = λ e items a v. tt
 in-rows s h (law_command w l) = λ t e law f g items a v. (tt, tt)
 in-rows s h (corr_command c) = λ d e f items a v. (tt, tt)
-in-rows s h (relator_command r) = λ eq e quot f comp g x y n m items a v. (tt, tt)
+in-rows s h (relator_command K R M E Q O) = λ eq e quot f comp g x y n m items a v. (tt, tt)
 in-rows s h (property_command l) = λ t e rule f n items a v. (tt, tt)
 in-rows s h (domain_command l) = λ t e rule f n items a v. (tt, tt)
 in-rows s h (rule_command l) = λ t e rule f n items a v. (tt, tt)
@@ -384,7 +387,7 @@ in-rows s h (lifting_command l) = λ t e n quot f m x g o p q u v items a w. (
     record {
       named = refl;
       sound = theorem-sound s.context.signature t quot (theory-stated s h.theory l t e) f;
-      order = test-holds (is_in_order s.context.signature quot.raw quot.abs) _ p;
+      order = test-holds (is_in_order s.context.signature quot.raw quot.abs) "order" p;
     },
     (tt, (tt, (tt, (tt, tt)))),
   ),
@@ -408,7 +411,7 @@ in-rows s h (quotient_type_command q params r l) = λ t e n m o p u v w items a 
     let R : WithType = with_its_type s.context.signature r in
     let additions : List Addition = additions_of (adds_class_quotient params (class_entry q params R)) in
     let sound = raw-sound s (context_of empty h.theory.0) h.theory.2 (theory-context s h.theory) r
-    (test-holds (is_relation_on_one (type_of s.context.signature r)) _ o) in (
+    (test-holds (is_relation_on_one (type_of s.context.signature r)) "relation" o) in (
       tt,
       (
         record {
@@ -428,7 +431,7 @@ in-rows s h (carry_command n e l) = λ transport f t g m items a v. tt
 in-rows s h (abs_eq_command c) = λ e f n q items a v. tt
 in-rows s h (rep_eq_command c) = λ e f n q m items a v. tt
 
-behind-ordered : (s : Session) (b : Block) (items : List Item) → IsOrderedSession s → RegistersInOrder s b → AreItemsOf b.additions items → AreValid s.context items
+behind-ordered : (s : Session) (b : Block) (items : List Item) → IsOrderedSession s → RegistersInOrder s b → AreAlikeItemsOf b.additions items → AreValid s.context items
     → AreTypedefsInOrder (session_behind s b).context.signature (session_behind s b).typedefs
     × AreInOrder (session_behind s b).context.signature (session_behind s b).quotients
 behind-ordered s b items h k a v =
@@ -448,7 +451,7 @@ pub stay-ordered : SessionsStayOrdered
 stay-ordered s c items later h g =
     let k : RegistersInOrder s g.0 = comes-block (RegistersInOrder s) s (row_of s c) g.0 (in-rows s h c)
     (comes-unless (first_wrong (tests_before s c)) (ComesOfRow s (row_of s c)) g.0 g.1) in
-    let o = behind-ordered s g.0 items h k g.2 g.3 in
+    let o = behind-ordered s g.0 items h k (items-alike g.0.additions items g.2) g.3 in
     record {
       theory = theory-kept s c items later h.theory g;
       typedefs = subst (λ (t : Session). AreTypedefsInOrder t.context.signature t.typedefs) (sym g.4) o.0;

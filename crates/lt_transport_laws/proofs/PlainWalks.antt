@@ -1,26 +1,27 @@
 -- The items that a walk gives are a valid plain theory.
-use Rattle.std.specs.Prelude.{◌≡◌, List, [], ◌∷◌, ◌++◌, Some, None, fold}
+use Rattle.std.specs.Prelude.{◌≡◌, List, [], ◌∷◌, ◌++◌, fold}
 use Rattle.std.proofs.Common.{refl, sym, subst, inl, inr}
-use Rattle.lt_definitions.specs.Items.{Item, lemma_item, Context, with_item, context_of}
+use Rattle.lt_definitions.specs.Items.{Item, lemma_item, Context, empty, with_item, context_of}
 use Rattle.lt_definitions.specs.Theory.{AreValid}
 use Rattle.lt_transport_definitions.specs.Sessions.{Session, new_session}
-use Rattle.lt_transport_definitions.specs.Commands.{Command, CommandRefusal, Addition, this_item, a_lemma, Block, item_of, with_addition, session_behind}
-use Rattle.lt_transport_definitions.specs.AlphaItems.{IsItemOf, AreItemsOf}
+use Rattle.lt_texts.specs.Commands.{Command}
+use Rattle.lt_walks.specs.Walks.{WalksText, Walks}
+use Rattle.lt_transport_definitions.specs.Commands.{Addition, this_item, a_lemma, Block, item_of, with_addition, session_behind}
 use Rattle.lt_transport_definitions.specs.Blocks.{Gives}
-use Rattle.lt_transport_definitions.specs.TheoryWalks.{Cut, header_wrong, has_commands, End, WalksCut, theory_commands, items_of_blocks}
+use Rattle.lt_transport_definitions.specs.TheoryWalks.{items_of_blocks}
 use Rattle.lt_transport_laws.specs.SessionStatements.{WalksArePlain, RunsArePlain}
 use Rattle.lt_transport_laws.specs.OrderStatements.{AreAlphaEqualContexts}
-use Rattle.lt_transport_laws.proofs.AlphaItemLemmas.{same-statements, adds-alpha, valid-alpha}
+use Rattle.lt_transport_laws.proofs.AlphaItemLemmas.{same-statements, adds-alpha, valid-alpha, IsAlikeItemOf, AreAlikeItemsOf, items-alike}
 use Rattle.lt_transport_laws.proofs.InStep.{context-kept}
 
 -- an addition and its item add the same
-pub one-adds : (c d : Context) → AreAlphaEqualContexts c d → (a : Addition) (item : Item) → IsItemOf a item
+pub one-adds : (c d : Context) → AreAlphaEqualContexts c d → (a : Addition) (item : Item) → IsAlikeItemOf a item
     → AreAlphaEqualContexts (with_item c (item_of a)) (with_item d item)
 one-adds c d e (this_item i) item h = adds-alpha c d e i item h
 one-adds c d e (a_lemma l t) item h = adds-alpha c d e (lemma_item l t h.0) item h.1
 
 -- so do additions and their items
-all-add : (s : Session) (d : Context) (additions : List Addition) (items : List Item) → AreAlphaEqualContexts s.context d → AreItemsOf additions items
+all-add : (s : Session) (d : Context) (additions : List Addition) (items : List Item) → AreAlphaEqualContexts s.context d → AreAlikeItemsOf additions items
     → AreAlphaEqualContexts (fold with_addition s additions).context (context_of d items)
 all-add s d [] [] e h = e
 all-add s d [] (item ∷ items) e h = absurd h
@@ -29,7 +30,7 @@ all-add s d (a ∷ additions) (item ∷ items) e h =
     all-add (with_addition s a) (with_item d item) additions items (one-adds s.context d e a item h.0) h.1
 
 -- the items of a block leave what the block leaves
-pub behind-alpha : (s : Session) (b : Block) (items : List Item) → AreItemsOf b.additions items
+pub behind-alpha : (s : Session) (b : Block) (items : List Item) → AreAlikeItemsOf b.additions items
     → AreAlphaEqualContexts (session_behind s b).context (context_of s.context items)
 behind-alpha s b items h = subst (λ (c : Context). AreAlphaEqualContexts c (context_of s.context items))
     (sym (context-kept (fold with_addition s b.additions) b.registrations))
@@ -39,28 +40,25 @@ pub valid-on : (ctx : Context) (xs ys : List Item) → AreValid ctx xs → AreVa
 valid-on ctx [] ys h k = k
 valid-on ctx (x ∷ xs) ys h k = (h.0, valid-on (with_item ctx x) xs ys h.1 k)
 
+one-block : (s later : Session) (c : Command) (items : List Item) (more : List (List Item)) → Gives s c items later
+    → AreValid later.context (items_of_blocks more) → AreValid s.context (items_of_blocks (items ∷ more))
+one-block s later c items more g h =
+    let k : AreValid (session_behind s g.0).context (items_of_blocks more) =
+    subst (λ (t : Session). AreValid t.context (items_of_blocks more)) g.4 h in
+    let v = valid-alpha (session_behind s g.0).context (context_of s.context items)
+    (behind-alpha s g.0 items (items-alike g.0.additions items g.2)) (items_of_blocks more) k in
+    valid-on s.context items (items_of_blocks more) g.3 v
+
+pub walks-plain : WalksArePlain
+walks-plain limit s at [] end h = tt
+walks-plain limit s at (items ∷ blocks) end (c, from, lines, to, behind, p, later, g, w) =
+    one-block s later c items blocks g (walks-plain limit later behind blocks end w)
+
 no-blocks : (ctx : Context) (blocks : List (List Item)) → blocks ≡ [] → AreValid ctx (items_of_blocks blocks)
 no-blocks ctx blocks e = subst (λ (bs : List (List Item)). AreValid ctx (items_of_blocks bs)) (sym e) tt
 
-one-block : (s later : Session) (c : Command) (items : List Item) (more blocks : List (List Item)) → Gives s c items later → blocks ≡ items ∷ more
-    → AreValid later.context (items_of_blocks more) → AreValid s.context (items_of_blocks blocks)
-one-block s later c items more blocks g e h =
-    let k : AreValid (session_behind s g.0).context (items_of_blocks more) =
-    subst (λ (t : Session). AreValid t.context (items_of_blocks more)) g.4 h in
-    let v = valid-alpha (session_behind s g.0).context (context_of s.context items) (behind-alpha s g.0 items g.2) (items_of_blocks more) k in
-    subst (λ (bs : List (List Item)). AreValid s.context (items_of_blocks bs)) (sym e) (valid-on s.context items (items_of_blocks more) g.3 v)
-
-pub walks-plain : WalksArePlain
-walks-plain s [] None blocks end h = no-blocks s.context blocks h.0
-walks-plain s [] (Some wrong) blocks end h = no-blocks s.context blocks h.0
-walks-plain s (c ∷ cs) wrong blocks end (inl h) = no-blocks s.context blocks h.2
-walks-plain s (c ∷ cs) wrong blocks end (inr h) =
-    one-block s h.1 c.command h.0 h.2 blocks h.3 h.4 (walks-plain h.1 cs wrong h.2 end h.5)
-
-cut-plain : (s : Session) (cut : Cut Command) (blocks : List (List Item)) (end : End CommandRefusal) → WalksCut theory_commands s cut blocks end
-    → AreValid s.context (items_of_blocks blocks)
-cut-plain s (header_wrong why place) blocks end h = no-blocks s.context blocks h.0
-cut-plain s (has_commands cs wrong) blocks end h = walks-plain s cs wrong blocks end h
-
 pub runs-plain : RunsArePlain
-runs-plain limit cut blocks end h = cut-plain (new_session limit) cut blocks end h
+unfolding Walks WalksText
+runs-plain limit text blocks end (inl h) = no-blocks empty blocks h.1
+runs-plain limit text blocks end (inr (h, inl k)) = no-blocks empty blocks k.2
+runs-plain limit text blocks end (inr (h, inr k)) = walks-plain limit (new_session limit) k.0 blocks end k.2

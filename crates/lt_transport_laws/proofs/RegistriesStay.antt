@@ -3,7 +3,7 @@ use Rattle.std.specs.Prelude.{◌≡◌, ℕ, List, [], ◌∷◌, ◌++◌, Boo
 use Rattle.std.proofs.Common.{refl, subst, sym, ap, ◌∙◌, inl, inr}
 use Rattle.std.specs.List.{range_with_len}
 use Rattle.lt_definitions.specs.Types.{Chars, same_name, TypeTree}
-use Rattle.lt_transport_definitions.specs.Constants.{is_counted}
+use Rattle.lt_transport_definitions.specs.Constants.{is_declared_as, is_counted}
 use Rattle.lt_definitions.specs.Terms.{TermTree}
 use Rattle.lt_definitions.specs.Typing.{Signature, declared_arity}
 use Rattle.lt_definitions.specs.Theory.{duplicate}
@@ -12,11 +12,13 @@ use Rattle.lt_transport_definitions.specs.Relations.{Relator, Registry, relator_
 use Rattle.lt_transport_definitions.specs.Answers.{needs_test, wrong_where, first_wrong}
 use Rattle.lt_transport_definitions.specs.Reading.{arity_of}
 use Rattle.lt_transport_definitions.specs.RuleForm.{TransferRule}
-use Rattle.lt_transport_definitions.specs.RelatorForm.{RelatorPart, relator_con, relator_rel, relator_map, relator_eq, relator_quot, relator_comp, type_number, relator_type, mapping_type, equality_statement, quotient_statement, composition_statement, states, is_declared_as, relator_form}
+use Rattle.lt_transport_definitions.specs.RelatorForm.{type_number, relator_type, mapping_type, equality_statement, quotient_statement, composition_statement, states, relator_form}
 use Rattle.lt_transport_definitions.specs.Sessions.{Session, signature_of}
-use Rattle.lt_transport_definitions.specs.Commands.{Command, item_command, law_command, corr_command, relator_command, property_command, domain_command, rule_command, lifting_command, lifting_typedef_command, quotient_type_command, lift_command, parametric_command, param_rule_command, equiv_command, implies_command, carry_command, abs_eq_command, rep_eq_command, CommandRefusal, as_item, rule_registered, Block, with_registration, session_behind}
+use Rattle.lt_texts.specs.Commands.{Command, item_command, law_command, corr_command, relator_command, property_command, domain_command, rule_command, lifting_command, lifting_typedef_command, quotient_type_command, lift_command, parametric_command, param_rule_command, equiv_command, implies_command, carry_command, abs_eq_command, rep_eq_command}
+use Rattle.lt_transport_definitions.specs.Commands.{CommandRefusal, as_item, rule_registered, Block, with_registration, session_behind}
 use Rattle.lt_transport_definitions.specs.Parts.{tests_before}
-use Rattle.lt_transport_definitions.specs.Blocks.{row_of, ComesOfRow}
+use Rattle.lt_transport_definitions.specs.Table.{row_of}
+use Rattle.lt_transport_definitions.specs.Blocks.{ComesOfRow}
 use Rattle.lt_transport_laws.specs.SessionStatements.{RegistriesStaySound}
 use Rattle.lt_transport_laws.proofs.RowLemmas.{comes-unless}
 use Rattle.lt_transport_laws.proofs.RowFacts.{EachBlock, comes-block}
@@ -52,7 +54,7 @@ no-name G c (Some K) e h = let k : kind_of G c ≡ a_relator K = is-kind G c K e
     let p : is_constructor (kind_of G c) ≡ true = ap is_constructor k in absurd (cc)
 
 -- a relator's type constructor has arguments
-no-bool : (t u : Bool) (rest : Result Relator RelatorPart) (r : Relator) → needs_test (t && u) relator_con rest ≡ Ok r → u ≡ true
+no-bool : (t u : Bool) (rest : Result Relator Chars) (r : Relator) → needs_test (t && u) (codes "K") rest ≡ Ok r → u ≡ true
 no-bool true true rest r h = refl
 no-bool true false rest r h = absurd (cc)
 no-bool false u rest r h = absurd (cc)
@@ -65,11 +67,11 @@ not-bool sig K h e = elim (bool_cases (same_name (codes "bool") K)) [
       let p : nat_lt 0 (arity_of sig K) ≡ false = ap (nat_lt 0) zero_arity in absurd (cc)
 ]
 
-test-ok : (t : Bool) (e : RelatorPart) (r : Result Relator RelatorPart) (x : Relator) → needs_test t e r ≡ Ok x → r ≡ Ok x
+test-ok : (t : Bool) (e : Chars) (r : Result Relator Chars) (x : Relator) → needs_test t e r ≡ Ok x → r ≡ Ok x
 test-ok true e r x h = h
 test-ok false e r x h = absurd (cc)
 
-same-relator : (r x : Relator) → ◌≡◌ {A = Result Relator RelatorPart} (Ok r) (Ok x) → x ≡ r
+same-relator : (r x : Relator) → ◌≡◌ {A = Result Relator Chars} (Ok r) (Ok x) → x ≡ r
 same-relator r x h = cc
 
 -- the form of a relator gives the relator itself
@@ -79,17 +81,17 @@ form-same sig r eq quot comp x h =
     let ns : List ℕ = range_with_len 1 n in
     let ss : List TypeTree = map (type_number "a") ns in
     let ts : List TypeTree = map (type_number "b") ns in
-    let r6 : Result Relator RelatorPart = needs_test (is_counted sig (codes "relcompp") && states comp (composition_statement r.con r.rel ns)) relator_comp (Ok r) in
-    let r5 : Result Relator RelatorPart = needs_test (is_counted sig (codes "Quotient") && states quot (quotient_statement r.con r.rel r.mapping ns)) relator_quot r6 in
-    let r4 : Result Relator RelatorPart = needs_test (states eq (equality_statement r.con r.rel ss)) relator_eq r5 in
-    let r3 : Result Relator RelatorPart = needs_test (is_declared_as sig r.mapping (mapping_type r.con ss ts)) relator_map r4 in
-    let r2 : Result Relator RelatorPart = needs_test (is_declared_as sig r.rel (relator_type r.con ss ts)) relator_rel r3 in
-    let h2 = test-ok (not (same_name r.con (codes "fun")) && nat_lt 0 n) relator_con r2 x h in
-    let h3 = test-ok (is_declared_as sig r.rel (relator_type r.con ss ts)) relator_rel r3 x h2 in
-    let h4 = test-ok (is_declared_as sig r.mapping (mapping_type r.con ss ts)) relator_map r4 x h3 in
-    let h5 = test-ok (states eq (equality_statement r.con r.rel ss)) relator_eq r5 x h4 in
-    let h6 = test-ok (is_counted sig (codes "Quotient") && states quot (quotient_statement r.con r.rel r.mapping ns)) relator_quot r6 x h5 in
-    let h7 = test-ok (is_counted sig (codes "relcompp") && states comp (composition_statement r.con r.rel ns)) relator_comp (Ok r) x h6 in
+    let r6 : Result Relator Chars = needs_test (is_counted sig (codes "relcompp") && states comp (composition_statement r.con r.rel ns)) (codes "O") (Ok r) in
+    let r5 : Result Relator Chars = needs_test (is_counted sig (codes "Quotient") && states quot (quotient_statement r.con r.rel r.mapping ns)) (codes "Q") r6 in
+    let r4 : Result Relator Chars = needs_test (states eq (equality_statement r.con r.rel ss)) (codes "E") r5 in
+    let r3 : Result Relator Chars = needs_test (is_declared_as sig r.mapping (mapping_type r.con ss ts)) (codes "M") r4 in
+    let r2 : Result Relator Chars = needs_test (is_declared_as sig r.rel (relator_type r.con ss ts)) (codes "R") r3 in
+    let h2 = test-ok (not (same_name r.con (codes "fun")) && nat_lt 0 n) (codes "K") r2 x h in
+    let h3 = test-ok (is_declared_as sig r.rel (relator_type r.con ss ts)) (codes "R") r3 x h2 in
+    let h4 = test-ok (is_declared_as sig r.mapping (mapping_type r.con ss ts)) (codes "M") r4 x h3 in
+    let h5 = test-ok (states eq (equality_statement r.con r.rel ss)) (codes "E") r5 x h4 in
+    let h6 = test-ok (is_counted sig (codes "Quotient") && states quot (quotient_statement r.con r.rel r.mapping ns)) (codes "Q") r6 x h5 in
+    let h7 = test-ok (is_counted sig (codes "relcompp") && states comp (composition_statement r.con r.rel ns)) (codes "O") (Ok r) x h6 in
     same-relator r x h7
 
 sound-rows : (s : Session) (c : Command) → declared_arity (signature_of s) (codes "bool") ≡ Some 0 → EachBlock (Sound s) (row_of s c)
@@ -110,7 +112,8 @@ sound-rows s (implies_command n t) d = λ e f g image h normal k. k
 sound-rows s (carry_command n e l) d = λ transport f t g m k. k
 sound-rows s (abs_eq_command c) d = λ e f n q k. k
 sound-rows s (rep_eq_command c) d = λ e f n q m k. k
-sound-rows s (relator_command r) d = λ eq e quot f comp g x h n m k.
+sound-rows s (relator_command K R M E Q O) d = λ eq e quot f comp g x h n m k.
+    let r : Relator = record { con = K; rel = R; mapping = M; eq = E; quot = Q; comp = O } in
     let same_relator : x ≡ r = form-same (signature_of s) r eq quot comp x h in
     let has_arguments : nat_lt 0 (arity_of (signature_of s) r.con) ≡ true = no-bool (not (same_name r.con (codes "fun"))) (nat_lt 0 (arity_of (signature_of s) r.con)) _ x h in
     subst (λ (y : Relator). AreSound (s.registry.relators ++ y ∷ [])) (sym same_relator)

@@ -6,9 +6,9 @@ use Rattle.lt_definitions.specs.Terms.{TermTree}
 use Rattle.lt_transport_definitions.specs.Reduction.{as_printed}
 use Rattle.lt_transport_definitions.specs.Sessions.{Session}
 use Rattle.lt_transport_definitions.specs.Quotients.{Quot, missing_pair}
-use Rattle.lt_transport_definitions.specs.Commands.{CommandRefusal, no_quotient, Block}
+use Rattle.lt_transport_definitions.specs.Commands.{CommandRefusal, Block}
 use Rattle.lt_transport_definitions.specs.Rows.{BlockOutcome, Row, ◌⊳◌, with_value, with_form, with_quotient, with_image, with_normal_form, adds}
-use Rattle.lt_transport_definitions.specs.Blocks.{Unless, OfValue, OfForm, ComesOfRow}
+use Rattle.lt_transport_definitions.specs.Blocks.{no_quotient, Unless, OfValue, OfForm, ComesOfRow}
 
 -- P holds of each block to which a row may come, where its tests hold.
 abbrev pub EachBlock : (Block → Type 0) → Row → Type 0

@@ -15,10 +15,11 @@ use Rattle.lt_transport_definitions.specs.Reading.{body_of, prefix_of}
 use Rattle.lt_transport_definitions.specs.Forms.{domain_head, domain_equation, domain_form}
 use Rattle.lt_transport_definitions.specs.RuleForm.{TransferRule}
 use Rattle.lt_transport_definitions.specs.Sessions.{Session}
-use Rattle.lt_transport_definitions.specs.Commands.{Command, item_command, law_command, corr_command, relator_command, property_command, domain_command, rule_command, lifting_command, lifting_typedef_command, quotient_type_command, lift_command, parametric_command, param_rule_command, equiv_command, implies_command, carry_command, abs_eq_command, rep_eq_command, Registration, law_registered, corr_registered, relator_registered, form_registered, property_registered, domain_registered, rule_registered, quotient_registered, lifted_registered, transport_registered, Block, with_registration}
+use Rattle.lt_texts.specs.Commands.{Command, item_command, law_command, corr_command, relator_command, property_command, domain_command, rule_command, lifting_command, lifting_typedef_command, quotient_type_command, lift_command, parametric_command, param_rule_command, equiv_command, implies_command, carry_command, abs_eq_command, rep_eq_command}
+use Rattle.lt_transport_definitions.specs.Commands.{Registration, law_registered, corr_registered, relator_registered, form_registered, property_registered, domain_registered, rule_registered, quotient_registered, lifted_registered, transport_registered, Block, with_registration}
 use Rattle.lt_transport_definitions.specs.QuotientBlocks.{QuotientTheorem, as_quotient, self_related}
 use Rattle.lt_transport_definitions.specs.QuotientRows.{is_relation_on_one}
-use Rattle.lt_transport_definitions.specs.Blocks.{row_of}
+use Rattle.lt_transport_definitions.specs.Table.{row_of}
 use Rattle.lt_transport_laws.specs.SessionStatements.{AreScopedDomains}
 use Rattle.lt_transport_laws.specs.OrderStatements.{IsOrderedSession}
 use Rattle.lt_transport_laws.proofs.LooseNames.{head-none, argument-none}
@@ -147,7 +148,7 @@ pub scoped-rows : (s : Session) → IsOrderedSession s → (c : Command) → Eac
 scoped-rows s h (item_command i) = λ e. tt
 scoped-rows s h (law_command w l) = λ t e law f g. (tt, tt)
 scoped-rows s h (corr_command c) = λ d e f. (tt, tt)
-scoped-rows s h (relator_command r) = λ eq e quot f comp g x y n m. (tt, tt)
+scoped-rows s h (relator_command K R M E Q O) = λ eq e quot f comp g x y n m. (tt, tt)
 scoped-rows s h (property_command l) = λ t e rule f n. (tt, tt)
 scoped-rows s h (domain_command l) = λ t e rule f n. (
   subst IsScopedOption f (form-scoped s.context.signature s.registry l t
@@ -184,7 +185,7 @@ scoped-rows s h (lifting_typedef_command q) = λ n t e m.
       ),
     )
 scoped-rows s h (quotient_type_command q params r l) = λ t e n m o p u v w.
-    let R : HasNoLooseNames r = related-none s.context.signature r (test-holds (is_relation_on_one (type_of s.context.signature r)) _ o) in
+    let R : HasNoLooseNames r = related-none s.context.signature r (test-holds (is_relation_on_one (type_of s.context.signature r)) "relation" o) in
     (tt, (tt, (tt, (tt, (tt, (self-none (type_of s.context.signature r) (record { term = r; ty = type_of s.context.signature r }) R, tt))))))
 scoped-rows s h (lift_command n ty t l) = λ respects e m o q p u. (tt, optional-rule _ _)
 scoped-rows s h (parametric_command q) = λ n e f m o. (tt, tt)

@@ -10,7 +10,7 @@ use Rattle.lt_nameless.proofs.BindingLemmas.{if-true, if-false}
 use Rattle.lt_transport_definitions.specs.Relations.{Property, RelationVariable, Registry}
 use Rattle.lt_transport_definitions.specs.Answers.{needs_test, needs, value_of}
 use Rattle.lt_transport_definitions.specs.Reading.{binders, behind_binders, relation_name, opened_from, body_of, prefix_of, read_relation}
-use Rattle.lt_transport_definitions.specs.RuleForm.{TransferRule, RulePart, rule_prefix, rule_head, rule_relation, rule_types, side_before, Conditioned, with_side, conditioned, Related, as_related, are_types_right, rule_form}
+use Rattle.lt_transport_definitions.specs.RuleForm.{TransferRule, side_before, Conditioned, with_side, conditioned, Related, as_related, are_types_right, rule_form}
 use Rattle.lt_transport_definitions.specs.Sessions.{Session, rule_now, rules_now}
 use Rattle.lt_transport_laws.specs.SessionStatements.{AreScopedStatements}
 use Rattle.lt_transport_laws.proofs.Rows.{AllOf}
@@ -94,22 +94,22 @@ IsScopedOption None = Unit {0}
 IsScopedOption (Some rule) = IsScopedRule rule
 
 -- what is said of a result holds where nothing is wrong before it
-needs-scoped : {A : Type 0} (o : Option A) (e : RulePart) (f : A → Result TransferRule RulePart)
+needs-scoped : {A : Type 0} (o : Option A) (e : Chars) (f : A → Result TransferRule Chars)
     → ((x : A) → o ≡ Some x → IsScopedOption (value_of (f x))) → IsScopedOption (value_of (needs o e f))
 needs-scoped (Some x) e f h = h x refl
 needs-scoped None e f h = tt
 
-test-scoped : (b : Bool) (e : RulePart) (r : Result TransferRule RulePart) → IsScopedOption (value_of r) → IsScopedOption (value_of (needs_test b e r))
+test-scoped : (b : Bool) (e : Chars) (r : Result TransferRule Chars) → IsScopedOption (value_of r) → IsScopedOption (value_of (needs_test b e r))
 test-scoped true e r h = h
 test-scoped false e r h = tt
 
 form-scoped : (sig : Signature) (G : Registry) (l : Chars) (t : TermTree) → HasNoLooseNames t → IsScopedOption (value_of (rule_form sig G l t))
-form-scoped sig G l t h = needs-scoped (prefix_of t) rule_prefix _ (λ xs e.
-    needs-scoped (as_related (conditioned sig xs (body_of t)).rest) rule_head _ (λ found d.
+form-scoped sig G l t h = needs-scoped (prefix_of t) (codes "Prefix") _ (λ xs e.
+    needs-scoped (as_related (conditioned sig xs (body_of t)).rest) (codes "Head") _ (λ found d.
     let raw : HasNoLooseNames found.raw =
     subst IsScopedRelated d (related-none (conditioned sig xs (body_of t)).rest (rest-none sig xs (body_of t) (body-none t h))) in
-    needs-scoped (read_relation sig G xs found.relation) rule_relation _ (λ r c.
-    test-scoped (are_types_right xs t found.pattern r) rule_types _ raw)))
+    needs-scoped (read_relation sig G xs found.relation) (codes "Relation") _ (λ r c.
+    test-scoped (are_types_right xs t found.pattern r) (codes "Types") _ raw)))
 
 rule_of-scoped : (sig : Signature) (G : Registry) (l : Chars) (o : Option TermTree) → ((t : TermTree) → o ≡ Some t → HasNoLooseNames t)
     → IsScopedOption (option_and_then (λ t. value_of (rule_form sig G l t)) o)

@@ -12,10 +12,11 @@ use Rattle.lt_nameless.proofs.BooleanSteps.{typed-alpha, signatures_are_sound}
 use Rattle.lt_nameless.proofs.StatementTypes.{IsSound, sound-empty, sound-items, statements_are_boolean}
 use Rattle.lt_nameless.proofs.Typings.{typed-has, has-typed}
 use Rattle.lt_transport_definitions.specs.Sessions.{Session, signature_of}
-use Rattle.lt_transport_definitions.specs.Commands.{Command, session_behind}
+use Rattle.lt_texts.specs.Commands.{Command}
+use Rattle.lt_transport_definitions.specs.Commands.{session_behind}
 use Rattle.lt_transport_definitions.specs.Blocks.{Gives}
 use Rattle.lt_transport_laws.specs.OrderStatements.{AreAlphaEqualContexts, IsOfTheory}
-use Rattle.lt_transport_laws.proofs.AlphaItemLemmas.{found-alpha, item-same, adds-alpha, valid-alpha}
+use Rattle.lt_transport_laws.proofs.AlphaItemLemmas.{found-alpha, item-same, adds-alpha, valid-alpha, items-alike}
 use Rattle.lt_transport_laws.proofs.PlainWalks.{behind-alpha, valid-on}
 
 statements-trans : (ps qs rs : List (Chars × TermTree)) → AreAlphaEqualStatements ps qs → AreAlphaEqualStatements qs rs → AreAlphaEqualStatements ps rs
@@ -43,7 +44,7 @@ pub theory-kept : (s : Session) (c : Command) (items : List Item) (later : Sessi
 theory-kept s c items later t g =
     let v = valid-alpha s.context (context_of empty t.0) t.2 items g.3 in
     let a = contexts-trans (session_behind s g.0).context (context_of s.context items) (context_of (context_of empty t.0) items)
-    (behind-alpha s g.0 items g.2) (items-alpha s.context (context_of empty t.0) t.2 items) in
+    (behind-alpha s g.0 items (items-alike g.0.additions items g.2)) (items-alpha s.context (context_of empty t.0) t.2 items) in
     let b = subst (λ (d : Context). AreAlphaEqualContexts (session_behind s g.0).context d) (sym (context-on empty t.0 items)) a in (
       t.0 ++ items,
       valid-on empty t.0 items t.1 v,

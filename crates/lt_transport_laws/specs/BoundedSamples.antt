@@ -8,7 +8,7 @@ use Rattle.lt_definitions.specs.Terms.{TermTree, implies, for_all}
 use Rattle.lt_definitions.specs.Items.{Item, const_item, axiom_item}
 use Rattle.lt_transport_definitions.specs.Notation.{WithType, ◌⇒◌, ◌~◌, ◌·◌, equality_at}
 use Rattle.lt_transport_definitions.specs.Constants.{eq_onp, rel_fun}
-use Rattle.lt_transport_definitions.specs.Relations.{Relation, relation_variable, equality, constructed, no_relations, Property, right_total, right_unique, bi_unique, RelationVariable, PropertyRule, Registry, built_in_registry}
+use Rattle.lt_transport_definitions.specs.Relations.{Relation, relation_variable, equality, constructed, no_relations, Property, RelationVariable, PropertyRule, Registry, built_in_registry}
 use Rattle.lt_transport_definitions.specs.Expressions.{function_relator, implication}
 use Rattle.lt_transport_definitions.specs.RuleForm.{TransferRule}
 use Rattle.lt_transport_definitions.specs.Search.{equal, Question}
@@ -88,9 +88,9 @@ abbrev pub registry_t : Registry
 registry_t = record built_in_registry {
   correspondences = built_in_registry.correspondences
       ++ record { name = codes "cr_t"; raw = nat; con = codes "t"; parameters = [] } ∷ [];
-  property_rules = property_of_t (codes "t_bi_unique") bi_unique
-      ∷ property_of_t (codes "t_right_total") right_total
-      ∷ property_of_t (codes "t_right_unique") right_unique ∷ [];
+  property_rules = property_of_t (codes "t_bi_unique") (codes "bi_unique")
+      ∷ property_of_t (codes "t_right_total") (codes "right_total")
+      ∷ property_of_t (codes "t_right_unique") (codes "right_unique") ∷ [];
   domain_rules = record {
     label = codes "t_domain";
     head = codes "cr_t";
@@ -113,7 +113,7 @@ abbrev pub rule_implies : TransferRule
 rule_implies = record {
   label = codes "all_implies";
   variables = variable_A ∷ [];
-  sides = (right_total, 0) ∷ [];
+  sides = (codes "right_total", 0) ∷ [];
   relation = function_relator predicates_over_A implication;
   raw = con_at "all" (tyvar "a" ∷ []);
   constant = codes "all";
@@ -125,7 +125,7 @@ abbrev pub rule_bounded : TransferRule
 rule_bounded = record {
   label = codes "all_bounded";
   variables = variable_A ∷ [];
-  sides = (right_total, 0) ∷ [];
+  sides = (codes "right_total", 0) ∷ [];
   relation = function_relator predicates_over_A (equality bool);
   raw = lambda "P" (tyvar "a" ⇒ bool) (for_all (tyvar "a") (lambda "x" (tyvar "a")
       (implies (app

@@ -6,9 +6,12 @@ use Rattle.lt_definitions.specs.Terms.{TermTree}
 use Rattle.lt_definitions.specs.Typing.{HasType}
 use Rattle.lt_definitions.specs.Items.{Item}
 use Rattle.lt_transport_definitions.specs.Sessions.{Session, new_session, signature_of}
-use Rattle.lt_transport_definitions.specs.Commands.{Command, CommandRefusal}
+use Rattle.lt_texts.specs.Texts.{Left}
+use Rattle.lt_texts.specs.Commands.{Command}
+use Rattle.lt_walks.specs.Walks.{End, WalksOn}
+use Rattle.lt_transport_definitions.specs.Commands.{CommandRefusal}
 use Rattle.lt_transport_definitions.specs.Blocks.{Gives}
-use Rattle.lt_transport_definitions.specs.TheoryWalks.{Cut, End, WalksCut, theory_commands}
+use Rattle.lt_transport_definitions.specs.TheoryWalks.{theory_commands, RunsText}
 use Rattle.lt_transport_laws.specs.Statements.{IsRegistry}
 use Rattle.lt_transport_laws.specs.SessionStatements.{AreScopedDomains, IsScopedSession, IsInStep}
 use Rattle.lt_transport_laws.specs.OrderStatements.{IsOrderedSession}
@@ -39,9 +42,16 @@ abbrev pub KeptStatementsAreBoolean : Type 0
 KeptStatementsAreBoolean = (s : Session) (l : Chars) (p : TermTree) → IsKeptSession s
     → found l s.context.statements ≡ Some p → HasType (signature_of s) [] p bool
 
--- A run over a text that is cut in one way has one end.
+-- A walk from such a session has one end.
+abbrev pub WalksAreOne : Type 0
+WalksAreOne =
+    (limit : ℕ) (s : Session) (at : Left) (blocks others : List (List Item))
+    (end other : End CommandRefusal)
+    → IsKeptSession s → WalksOn (theory_commands limit) s at blocks end
+    → WalksOn (theory_commands limit) s at others other → end ≡ other
+
+-- A run over a text has one end.
 abbrev pub RunsHaveOneEnd : Type 0
-RunsHaveOneEnd = (limit : ℕ) (cut : Cut Command) (blocks others : List (List Item))
-    → (end other : End CommandRefusal)
-    → WalksCut theory_commands (new_session limit) cut blocks end
-    → WalksCut theory_commands (new_session limit) cut others other → end ≡ other
+RunsHaveOneEnd =
+    (limit : ℕ) (text : List ℕ) (blocks others : List (List Item)) (end other : End CommandRefusal)
+    → RunsText limit text blocks end → RunsText limit text others other → end ≡ other

@@ -9,7 +9,7 @@ use Rattle.lt_nameless.specs.AlphaEqualLines.{AreAlphaEqualStatements}
 use Rattle.lt_transport_definitions.specs.Sessions.{Typedef, Session, new_session, signature_of}
 use Rattle.lt_transport_definitions.specs.Quotients.{Quot, IsQuotBetween}
 use Rattle.lt_transport_definitions.specs.QuotientBlocks.{is_in_order}
-use Rattle.lt_transport_definitions.specs.Commands.{Command}
+use Rattle.lt_texts.specs.Commands.{Command}
 use Rattle.lt_transport_definitions.specs.Blocks.{Gives}
 use Rattle.lt_transport_laws.specs.QuotientStatements.{AreInOrder}
 

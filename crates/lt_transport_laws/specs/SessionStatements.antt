@@ -1,5 +1,5 @@
 -- What the laws on sessions and walks say.
-use Rattle.std.specs.Prelude.{◌≡◌, ℕ, List, [], ◌∷◌, Option, Some, Ok, IsSome, map, codes}
+use Rattle.std.specs.Prelude.{◌≡◌, ℕ, List, [], ◌∷◌, Some, Ok, IsSome, map, codes}
 use Rattle.std.specs.List.{flat_map}
 use Rattle.lt_definitions.specs.Types.{Chars, found}
 use Rattle.lt_definitions.specs.Terms.{TermTree, HasNoLooseNames}
@@ -7,11 +7,16 @@ use Rattle.lt_definitions.specs.Typing.{declared_arity}
 use Rattle.lt_definitions.specs.Items.{Item, Context}
 use Rattle.lt_definitions.specs.Theory.{AreValid, IsPlainTheory}
 use Rattle.lt_transport_definitions.specs.Relations.{Relator, Parametrised, DomainRule}
-use Rattle.lt_transport_definitions.specs.Sessions.{LiftedEntry, Session, new_session, signature_of}
-use Rattle.lt_transport_definitions.specs.Commands.{Command, CommandRefusal, Block, session_behind}
+use Rattle.lt_transport_definitions.specs.Sessions.{LiftedEntry, Session, signature_of}
+use Rattle.lt_definitions.specs.Printing.{report, summary_lines, count_line}
+use Rattle.lt_texts.specs.Texts.{Left}
+use Rattle.lt_texts.specs.Commands.{Command}
+use Rattle.lt_walks.specs.Walks.{End, WalksOn}
+use Rattle.lt_transport_definitions.specs.Commands.{CommandRefusal, Block, session_behind}
 use Rattle.lt_transport_definitions.specs.Rows.{BlockOutcome}
+use Rattle.lt_transport_definitions.specs.AlphaItems.{AreAlphaEqualItems}
 use Rattle.lt_transport_definitions.specs.Blocks.{ComesOf, Gives}
-use Rattle.lt_transport_definitions.specs.TheoryWalks.{Placed, Unread, Cut, End, WalksOver, WalksCut, theory_commands, items_of_blocks}
+use Rattle.lt_transport_definitions.specs.TheoryWalks.{theory_commands, RunsText, items_of_blocks}
 use Rattle.lt_transport_laws.specs.Statements.{IsRegistry}
 
 -- Named statements without loose bound names.
@@ -43,35 +48,24 @@ SessionsAreOne =
     (s : Session) (c : Command) (xs ys : List Item) (later other : Session) → IsScopedSession s
     → Gives s c xs later → Gives s c ys other → later ≡ other
 
--- Each session that the commands lead to has its binders.
-abbrev pub AreScopedAlong : Session → List (Placed Command) → Type 0
-AreScopedAlong s [] = Unit {0}
-AreScopedAlong s (c ∷ cs) =
-    IsScopedSession s
-    × ((items : List Item) (later : Session) → Gives s c.command items later
-    → AreScopedAlong later cs)
-
--- A walk over commands has one end.
-abbrev pub WalksAreOne : Type 0
-WalksAreOne =
-    (s : Session) (cs : List (Placed Command)) (wrong : Option (Unread × ℕ))
-    (xs ys : List (List Item)) (end other : End CommandRefusal)
-    → AreScopedAlong s cs → WalksOver theory_commands s cs wrong xs end
-    → WalksOver theory_commands s cs wrong ys other → end ≡ other
-
 -- The items that a walk gives are valid one after another, over those before the walk.
 abbrev pub WalksArePlain : Type 0
 WalksArePlain =
-    (s : Session) (cs : List (Placed Command)) (wrong : Option (Unread × ℕ))
-    (blocks : List (List Item)) (end : End CommandRefusal)
-    → WalksOver theory_commands s cs wrong blocks end → AreValid s.context (items_of_blocks blocks)
+    (limit : ℕ) (s : Session) (at : Left) (blocks : List (List Item)) (end : End CommandRefusal)
+    → WalksOn (theory_commands limit) s at blocks end → AreValid s.context (items_of_blocks blocks)
 
--- The items of a run are a valid plain theory, however its text is cut.
+-- The items of a run are a valid plain theory.
 abbrev pub RunsArePlain : Type 0
 RunsArePlain =
-    (limit : ℕ) (cut : Cut Command) (blocks : List (List Item)) (end : End CommandRefusal)
-    → WalksCut theory_commands (new_session limit) cut blocks end
-    → IsPlainTheory (items_of_blocks blocks)
+    (limit : ℕ) (text : List ℕ) (blocks : List (List Item)) (end : End CommandRefusal)
+    → RunsText limit text blocks end → IsPlainTheory (items_of_blocks blocks)
+
+-- Items that are one up to alpha equality print alike, with their lines and without.
+abbrev pub AlikeItemsPrintAlike : Type 0
+AlikeItemsPrintAlike =
+    (items others : List Item) → AreAlphaEqualItems items others
+    → (report items ≡ report others) × (summary_lines items ≡ summary_lines others)
+    × (count_line items ≡ count_line others)
 
 -- A block leaves the registry one that meets what the laws ask, where bool is declared without
 -- arguments.

@@ -1,5 +1,5 @@
 //! Laws of the sessions to which commands lead. Each function does nothing: its contract is the law.
-ghost use Rattle.lt_transport_laws.specs.KeptStatements.{NewSessionsAreKept, SessionsAreKept, KeptSessionsAreScoped, KeptStatementsAreBoolean, RunsHaveOneEnd};
+ghost use Rattle.lt_transport_laws.specs.KeptStatements.{NewSessionsAreKept, SessionsAreKept, KeptSessionsAreScoped, KeptStatementsAreBoolean, WalksAreOne, RunsHaveOneEnd};
 
 /// What commands give leaves a session in order, sound, with binders, and in step; and then the
 /// premises of the other laws on sessions hold, and each of its statements is boolean.
@@ -10,7 +10,8 @@ pub fn sessions_are_kept()
     ensures boolean { KeptStatementsAreBoolean }
 {}
 
-/// A run over a text that is cut in one way has one end.
-pub fn runs_have_one_end()
-    ensures { RunsHaveOneEnd }
+/// A walk from such a session has one end, so a run over a text has.
+pub fn walks_are_one()
+    ensures walk { WalksAreOne }
+    ensures run { RunsHaveOneEnd }
 {}

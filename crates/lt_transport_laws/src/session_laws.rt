@@ -1,5 +1,5 @@
 //! Laws of sessions and walks. Each function does nothing: its contract is the law.
-ghost use Rattle.lt_transport_laws.specs.SessionStatements.{EachOutcomeIsOne, SessionsAreOne, WalksAreOne, WalksArePlain, RunsArePlain, RegistriesStaySound, SessionsStayInStep};
+ghost use Rattle.lt_transport_laws.specs.SessionStatements.{EachOutcomeIsOne, SessionsAreOne, WalksArePlain, RunsArePlain, AlikeItemsPrintAlike, RegistriesStaySound, SessionsStayInStep};
 
 /// One outcome comes of each command, transports included, where each statement of the session has
 /// its binders.
@@ -12,15 +12,15 @@ pub fn sessions_are_one()
     ensures { SessionsAreOne }
 {}
 
-/// A walk over commands has one end.
-pub fn walks_are_one()
-    ensures { WalksAreOne }
-{}
-
 /// The items that a walk gives are valid, and those of a run are a valid plain theory.
 pub fn walks_are_plain()
     ensures walk { WalksArePlain }
     ensures run { RunsArePlain }
+{}
+
+/// What a call answers up to alpha equality prints as what the walk gives.
+pub fn alike_items_print_alike()
+    ensures { AlikeItemsPrintAlike }
 {}
 
 /// A block leaves the registry one that meets what the laws ask.

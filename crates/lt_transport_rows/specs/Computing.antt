@@ -2,7 +2,7 @@
 -- for to a depth, and where it asks for an image that image is told. No definition and no contract
 -- cites this file; it is checked against the definitions nowhere but by use.
 -- Source: this project's own.
-use Rattle.std.specs.Prelude.{ℕ, zero, suc, List, [], ◌∷◌, ◌++◌, Bool, true, false, ◌&&◌, ◌||◌, if◌then◌else◌, filter, map, slice_get, Option, Some, None, Ok, Err, codes, length, nat_eq, nat_lt, unwrap_or, option_map}
+use Rattle.std.specs.Prelude.{ℕ, zero, suc, List, [], ◌∷◌, ◌++◌, Bool, true, false, ◌&&◌, ◌||◌, if◌then◌else◌, slice_get, Option, Some, None, Ok, Err, codes, length, nat_eq, nat_lt, unwrap_or, option_map}
 use Rattle.std.specs.List.{list_all}
 use Prim.Native.String.{String}
 use Rattle.lt_definitions.specs.Types.{Chars, same_name, found, TypeTree, type_variable, type_constructor, TypeTrees, type_and, bool, row, same_type, same_types, TypeMap, type_instance}
@@ -20,11 +20,13 @@ use Rattle.lt_transport_definitions.specs.Search.{Question, top_candidates}
 use Rattle.lt_transport_definitions.specs.Reduction.{as_printed}
 use Rattle.lt_transport_definitions.specs.Sessions.{Session, new_session, signature_of, rules_now}
 use Rattle.lt_transport_definitions.specs.Quotients.{raw_at, Quot, identity_quotient, relator_quotient, registered_quotient, composed_quotient, no_quotient_between, Quots, no_quots, quot_and, QuotCase, equal_types, one_relator, that_quotient, another_raw_type, nothing, case_of, missing_pair}
-use Rattle.lt_transport_definitions.specs.Commands.{Command, no_quotient, no_transport, Addition, item_of, session_behind}
+use Rattle.lt_texts.specs.Commands.{Command}
+use Rattle.lt_transport_definitions.specs.Commands.{because, Addition, item_of, session_behind}
 use Rattle.lt_transport_definitions.specs.Rows.{BlockOutcome, Row, ◌⊳◌, with_value, with_form, with_quotient, with_image, with_normal_form, adds}
 use Rattle.lt_transport_definitions.specs.Parts.{tests_before}
-use Rattle.lt_transport_definitions.specs.RefusalTexts.{printed_refusal}
-use Rattle.lt_transport_definitions.specs.Blocks.{row_of}
+use Rattle.lt_transport_definitions.specs.Reports.{printed_refusal}
+use Rattle.lt_transport_definitions.specs.Table.{row_of}
+use Rattle.lt_transport_definitions.specs.Blocks.{no_quotient}
 
 -- quotients of arguments
 abbrev pub quots_by : (TypeTree → TypeTree → Quot) → TypeTrees → TypeTrees → Quots
@@ -172,10 +174,10 @@ computed s told (with_form x refusal_for row) =
 computed s told (with_quotient abs raw row) = let q : Quot = quot_within 12 s abs raw in
     elim (missing_pair q) as
     (λ p. BlockOutcome) [ None ↦ computed s told (row q) | Some p ↦ Err (no_quotient p.0 p.1) ]
-computed s None (with_image q limit row) = Err no_transport
+computed s None (with_image q limit row) = Err (because "NoTransport" [])
 computed s (Some t) (with_image q limit row) =
-    if is_solution s q t then computed s (Some t) (row t.image) else Err no_transport
-computed s None (with_normal_form t row) = Err no_transport
+    if is_solution s q t then computed s (Some t) (row t.image) else Err (because "NoTransport" [])
+computed s None (with_normal_form t row) = Err (because "NoTransport" [])
 computed s (Some told) (with_normal_form t row) =
     computed s (Some told) (row (as_printed [] told.normal))
 computed s told (adds items registered) =

@@ -5,7 +5,7 @@ use Rattle.lt_definitions.specs.Types.{bool, fun}
 use Rattle.lt_definitions.specs.Items.{type_item, const_item, axiom_item, typedef_item}
 use Rattle.lt_transport_definitions.specs.Relations.{equality, constructed, no_relations}
 use Rattle.lt_transport_definitions.specs.Correspondence.{chosen_name, chosen_rule, chosen_equality, chosen_application, chosen_abstraction}
-use Rattle.lt_transport_definitions.specs.Commands.{Command, item_command, law_command, corr_command, property_command, rule_command, lifting_typedef_command, lift_command, equiv_command, implies_command, rep_eq_command}
+use Rattle.lt_texts.specs.Commands.{Command, item_command, law_command, corr_command, property_command, rule_command, lifting_typedef_command, lift_command, equiv_command, implies_command, rep_eq_command}
 use Rattle.lt_transport_rows.specs.Computing.{Told, candidate, tc, cn, bn, fr, ap, lm, untold, told}
 
 -- a constant without rules is related to itself

@@ -5,7 +5,7 @@ use Rattle.lt_definitions.specs.Types.{bool, fun}
 use Rattle.lt_definitions.specs.Items.{type_item, const_item, axiom_item}
 use Rattle.lt_transport_definitions.specs.Relations.{equality, constructed, no_relations}
 use Rattle.lt_transport_definitions.specs.Correspondence.{chosen_name, chosen_rule, chosen_equality, chosen_application, chosen_abstraction}
-use Rattle.lt_transport_definitions.specs.Commands.{Command, item_command, rule_command, lifting_command, quotient_type_command, lift_command, equiv_command, carry_command, abs_eq_command, rep_eq_command}
+use Rattle.lt_texts.specs.Commands.{Command, item_command, rule_command, lifting_command, quotient_type_command, lift_command, equiv_command, carry_command, abs_eq_command, rep_eq_command}
 use Rattle.lt_transport_rows.specs.Computing.{Told, candidate, tc, cn, bn, ap, lm, untold, told}
 
 -- integers as pairs: quotient type, lifted constant, transport, carrying back

@@ -3,7 +3,7 @@
 use Rattle.std.specs.Prelude.{List, [], ◌∷◌, Option, codes}
 use Rattle.lt_definitions.specs.Types.{Chars, bool, fun}
 use Rattle.lt_definitions.specs.Items.{axiom_item, def_item}
-use Rattle.lt_transport_definitions.specs.Commands.{Command, item_command, law_command, property_command, rule_command}
+use Rattle.lt_texts.specs.Commands.{Command, item_command, law_command, property_command, rule_command}
 use Rattle.lt_transport_rows.specs.Computing.{Told, tv, cn, bn, ap, lm, untold}
 
 -- the commands of the text of all laws

@@ -5,7 +5,7 @@ use Rattle.lt_definitions.specs.Types.{bool, fun}
 use Rattle.lt_definitions.specs.Items.{type_item, const_item, axiom_item}
 use Rattle.lt_transport_definitions.specs.Relations.{constructed, no_relations}
 use Rattle.lt_transport_definitions.specs.Correspondence.{chosen_name, chosen_rule, chosen_application, chosen_abstraction}
-use Rattle.lt_transport_definitions.specs.Commands.{Command, item_command, relator_command, rule_command, lifting_command, quotient_type_command, lift_command, parametric_command, param_rule_command, equiv_command, carry_command}
+use Rattle.lt_texts.specs.Commands.{Command, item_command, relator_command, rule_command, lifting_command, quotient_type_command, lift_command, parametric_command, param_rule_command, equiv_command, carry_command}
 use Rattle.lt_transport_rows.specs.Computing.{Told, candidate, tv, tc, cn, bn, ap, lm, untold, told}
 
 -- a composed quotient: its transfer lemma is no rule
@@ -28,7 +28,7 @@ composed = untold (item_command (type_item (codes "nat") 0))
     ∷ untold (item_command (axiom_item (codes "list_eq") (ap (ap (cn "eq" ((fun (tc "list" ((tv "a") ∷ [])) (fun (tc "list" ((tv "a") ∷ [])) bool)) ∷ [])) (ap (cn "list_all2" ((tv "a") ∷ (tv "a") ∷ [])) (cn "eq" ((tv "a") ∷ [])))) (cn "eq" ((tc "list" ((tv "a") ∷ [])) ∷ [])))))
     ∷ untold (item_command (axiom_item (codes "list_quotient") (ap (cn "all" ((fun (tv "a") (fun (tv "a") bool)) ∷ [])) (lm "x0" (fun (tv "a") (fun (tv "a") bool)) (ap (cn "all" ((fun (tv "a") (tv "b")) ∷ [])) (lm "x1" (fun (tv "a") (tv "b")) (ap (cn "all" ((fun (tv "b") (tv "a")) ∷ [])) (lm "x2" (fun (tv "b") (tv "a")) (ap (cn "all" ((fun (tv "a") (fun (tv "b") bool)) ∷ [])) (lm "x3" (fun (tv "a") (fun (tv "b") bool)) (ap (ap (cn "imp" ([])) (ap (ap (ap (ap (cn "Quotient" ((tv "a") ∷ (tv "b") ∷ [])) (bn "x0")) (bn "x1")) (bn "x2")) (bn "x3"))) (ap (ap (ap (ap (cn "Quotient" ((tc "list" ((tv "a") ∷ [])) ∷ (tc "list" ((tv "b") ∷ [])) ∷ [])) (ap (cn "list_all2" ((tv "a") ∷ (tv "a") ∷ [])) (bn "x0"))) (ap (cn "map" ((tv "a") ∷ (tv "b") ∷ [])) (bn "x1"))) (ap (cn "map" ((tv "b") ∷ (tv "a") ∷ [])) (bn "x2"))) (ap (cn "list_all2" ((tv "a") ∷ (tv "b") ∷ [])) (bn "x3"))))))))))))))
     ∷ untold (item_command (axiom_item (codes "list_comp") (ap (cn "all" ((fun (tv "a") (fun (tv "b") bool)) ∷ [])) (lm "x0" (fun (tv "a") (fun (tv "b") bool)) (ap (cn "all" ((fun (tv "b") (fun (tv "c") bool)) ∷ [])) (lm "x1" (fun (tv "b") (fun (tv "c") bool)) (ap (ap (cn "eq" ((fun (tc "list" ((tv "a") ∷ [])) (fun (tc "list" ((tv "c") ∷ [])) bool)) ∷ [])) (ap (cn "list_all2" ((tv "a") ∷ (tv "c") ∷ [])) (ap (ap (cn "relcompp" ((tv "a") ∷ (tv "b") ∷ (tv "c") ∷ [])) (bn "x0")) (bn "x1")))) (ap (ap (cn "relcompp" ((tc "list" ((tv "a") ∷ [])) ∷ (tc "list" ((tv "b") ∷ [])) ∷ (tc "list" ((tv "c") ∷ [])) ∷ [])) (ap (cn "list_all2" ((tv "a") ∷ (tv "b") ∷ [])) (bn "x0"))) (ap (cn "list_all2" ((tv "b") ∷ (tv "c") ∷ [])) (bn "x1"))))))))))
-    ∷ untold (relator_command (record { con = codes "list"; rel = codes "list_all2"; mapping = codes "map"; eq = codes "list_eq"; quot = codes "list_quotient"; comp = codes "list_comp" }))
+    ∷ untold (relator_command (codes "list") (codes "list_all2") (codes "map") (codes "list_eq") (codes "list_quotient") (codes "list_comp"))
     ∷ untold (item_command (type_item (codes "q2") 0))
     ∷ untold (item_command (const_item (codes "R2") (fun (tc "list" ((tc "int" ([])) ∷ [])) (fun (tc "list" ((tc "int" ([])) ∷ [])) bool))))
     ∷ untold (item_command (const_item (codes "abs2") (fun (tc "list" ((tc "int" ([])) ∷ [])) (tc "q2" ([])))))
@@ -61,7 +61,7 @@ composed_no_rule = untold (item_command (type_item (codes "nat") 0))
     ∷ untold (item_command (axiom_item (codes "list_eq") (ap (ap (cn "eq" ((fun (tc "list" ((tv "a") ∷ [])) (fun (tc "list" ((tv "a") ∷ [])) bool)) ∷ [])) (ap (cn "list_all2" ((tv "a") ∷ (tv "a") ∷ [])) (cn "eq" ((tv "a") ∷ [])))) (cn "eq" ((tc "list" ((tv "a") ∷ [])) ∷ [])))))
     ∷ untold (item_command (axiom_item (codes "list_quotient") (ap (cn "all" ((fun (tv "a") (fun (tv "a") bool)) ∷ [])) (lm "x0" (fun (tv "a") (fun (tv "a") bool)) (ap (cn "all" ((fun (tv "a") (tv "b")) ∷ [])) (lm "x1" (fun (tv "a") (tv "b")) (ap (cn "all" ((fun (tv "b") (tv "a")) ∷ [])) (lm "x2" (fun (tv "b") (tv "a")) (ap (cn "all" ((fun (tv "a") (fun (tv "b") bool)) ∷ [])) (lm "x3" (fun (tv "a") (fun (tv "b") bool)) (ap (ap (cn "imp" ([])) (ap (ap (ap (ap (cn "Quotient" ((tv "a") ∷ (tv "b") ∷ [])) (bn "x0")) (bn "x1")) (bn "x2")) (bn "x3"))) (ap (ap (ap (ap (cn "Quotient" ((tc "list" ((tv "a") ∷ [])) ∷ (tc "list" ((tv "b") ∷ [])) ∷ [])) (ap (cn "list_all2" ((tv "a") ∷ (tv "a") ∷ [])) (bn "x0"))) (ap (cn "map" ((tv "a") ∷ (tv "b") ∷ [])) (bn "x1"))) (ap (cn "map" ((tv "b") ∷ (tv "a") ∷ [])) (bn "x2"))) (ap (cn "list_all2" ((tv "a") ∷ (tv "b") ∷ [])) (bn "x3"))))))))))))))
     ∷ untold (item_command (axiom_item (codes "list_comp") (ap (cn "all" ((fun (tv "a") (fun (tv "b") bool)) ∷ [])) (lm "x0" (fun (tv "a") (fun (tv "b") bool)) (ap (cn "all" ((fun (tv "b") (fun (tv "c") bool)) ∷ [])) (lm "x1" (fun (tv "b") (fun (tv "c") bool)) (ap (ap (cn "eq" ((fun (tc "list" ((tv "a") ∷ [])) (fun (tc "list" ((tv "c") ∷ [])) bool)) ∷ [])) (ap (cn "list_all2" ((tv "a") ∷ (tv "c") ∷ [])) (ap (ap (cn "relcompp" ((tv "a") ∷ (tv "b") ∷ (tv "c") ∷ [])) (bn "x0")) (bn "x1")))) (ap (ap (cn "relcompp" ((tc "list" ((tv "a") ∷ [])) ∷ (tc "list" ((tv "b") ∷ [])) ∷ (tc "list" ((tv "c") ∷ [])) ∷ [])) (ap (cn "list_all2" ((tv "a") ∷ (tv "b") ∷ [])) (bn "x0"))) (ap (cn "list_all2" ((tv "b") ∷ (tv "c") ∷ [])) (bn "x1"))))))))))
-    ∷ untold (relator_command (record { con = codes "list"; rel = codes "list_all2"; mapping = codes "map"; eq = codes "list_eq"; quot = codes "list_quotient"; comp = codes "list_comp" }))
+    ∷ untold (relator_command (codes "list") (codes "list_all2") (codes "map") (codes "list_eq") (codes "list_quotient") (codes "list_comp"))
     ∷ untold (item_command (type_item (codes "q2") 0))
     ∷ untold (item_command (const_item (codes "R2") (fun (tc "list" ((tc "int" ([])) ∷ [])) (fun (tc "list" ((tc "int" ([])) ∷ [])) bool))))
     ∷ untold (item_command (const_item (codes "abs2") (fun (tc "list" ((tc "int" ([])) ∷ [])) (tc "q2" ([])))))
@@ -95,7 +95,7 @@ other_respectfulness = untold (item_command (type_item (codes "nat") 0))
     ∷ untold (item_command (axiom_item (codes "list_eq") (ap (ap (cn "eq" ((fun (tc "list" ((tv "a") ∷ [])) (fun (tc "list" ((tv "a") ∷ [])) bool)) ∷ [])) (ap (cn "list_all2" ((tv "a") ∷ (tv "a") ∷ [])) (cn "eq" ((tv "a") ∷ [])))) (cn "eq" ((tc "list" ((tv "a") ∷ [])) ∷ [])))))
     ∷ untold (item_command (axiom_item (codes "list_quotient") (ap (cn "all" ((fun (tv "a") (fun (tv "a") bool)) ∷ [])) (lm "x0" (fun (tv "a") (fun (tv "a") bool)) (ap (cn "all" ((fun (tv "a") (tv "b")) ∷ [])) (lm "x1" (fun (tv "a") (tv "b")) (ap (cn "all" ((fun (tv "b") (tv "a")) ∷ [])) (lm "x2" (fun (tv "b") (tv "a")) (ap (cn "all" ((fun (tv "a") (fun (tv "b") bool)) ∷ [])) (lm "x3" (fun (tv "a") (fun (tv "b") bool)) (ap (ap (cn "imp" ([])) (ap (ap (ap (ap (cn "Quotient" ((tv "a") ∷ (tv "b") ∷ [])) (bn "x0")) (bn "x1")) (bn "x2")) (bn "x3"))) (ap (ap (ap (ap (cn "Quotient" ((tc "list" ((tv "a") ∷ [])) ∷ (tc "list" ((tv "b") ∷ [])) ∷ [])) (ap (cn "list_all2" ((tv "a") ∷ (tv "a") ∷ [])) (bn "x0"))) (ap (cn "map" ((tv "a") ∷ (tv "b") ∷ [])) (bn "x1"))) (ap (cn "map" ((tv "b") ∷ (tv "a") ∷ [])) (bn "x2"))) (ap (cn "list_all2" ((tv "a") ∷ (tv "b") ∷ [])) (bn "x3"))))))))))))))
     ∷ untold (item_command (axiom_item (codes "list_comp") (ap (cn "all" ((fun (tv "a") (fun (tv "b") bool)) ∷ [])) (lm "x0" (fun (tv "a") (fun (tv "b") bool)) (ap (cn "all" ((fun (tv "b") (fun (tv "c") bool)) ∷ [])) (lm "x1" (fun (tv "b") (fun (tv "c") bool)) (ap (ap (cn "eq" ((fun (tc "list" ((tv "a") ∷ [])) (fun (tc "list" ((tv "c") ∷ [])) bool)) ∷ [])) (ap (cn "list_all2" ((tv "a") ∷ (tv "c") ∷ [])) (ap (ap (cn "relcompp" ((tv "a") ∷ (tv "b") ∷ (tv "c") ∷ [])) (bn "x0")) (bn "x1")))) (ap (ap (cn "relcompp" ((tc "list" ((tv "a") ∷ [])) ∷ (tc "list" ((tv "b") ∷ [])) ∷ (tc "list" ((tv "c") ∷ [])) ∷ [])) (ap (cn "list_all2" ((tv "a") ∷ (tv "b") ∷ [])) (bn "x0"))) (ap (cn "list_all2" ((tv "b") ∷ (tv "c") ∷ [])) (bn "x1"))))))))))
-    ∷ untold (relator_command (record { con = codes "list"; rel = codes "list_all2"; mapping = codes "map"; eq = codes "list_eq"; quot = codes "list_quotient"; comp = codes "list_comp" }))
+    ∷ untold (relator_command (codes "list") (codes "list_all2") (codes "map") (codes "list_eq") (codes "list_quotient") (codes "list_comp"))
     ∷ untold (item_command (type_item (codes "q2") 0))
     ∷ untold (item_command (const_item (codes "R2") (fun (tc "list" ((tc "int" ([])) ∷ [])) (fun (tc "list" ((tc "int" ([])) ∷ [])) bool))))
     ∷ untold (item_command (const_item (codes "abs2") (fun (tc "list" ((tc "int" ([])) ∷ [])) (tc "q2" ([])))))
@@ -154,7 +154,7 @@ parametrised = untold (item_command (type_item (codes "list") 1))
     ∷ untold (item_command (axiom_item (codes "list_eq") (ap (ap (cn "eq" ((fun (tc "list" ((tv "a") ∷ [])) (fun (tc "list" ((tv "a") ∷ [])) bool)) ∷ [])) (ap (cn "list_all2" ((tv "a") ∷ (tv "a") ∷ [])) (cn "eq" ((tv "a") ∷ [])))) (cn "eq" ((tc "list" ((tv "a") ∷ [])) ∷ [])))))
     ∷ untold (item_command (axiom_item (codes "list_quotient") (ap (cn "all" ((fun (tv "a") (fun (tv "a") bool)) ∷ [])) (lm "x0" (fun (tv "a") (fun (tv "a") bool)) (ap (cn "all" ((fun (tv "a") (tv "b")) ∷ [])) (lm "x1" (fun (tv "a") (tv "b")) (ap (cn "all" ((fun (tv "b") (tv "a")) ∷ [])) (lm "x2" (fun (tv "b") (tv "a")) (ap (cn "all" ((fun (tv "a") (fun (tv "b") bool)) ∷ [])) (lm "x3" (fun (tv "a") (fun (tv "b") bool)) (ap (ap (cn "imp" ([])) (ap (ap (ap (ap (cn "Quotient" ((tv "a") ∷ (tv "b") ∷ [])) (bn "x0")) (bn "x1")) (bn "x2")) (bn "x3"))) (ap (ap (ap (ap (cn "Quotient" ((tc "list" ((tv "a") ∷ [])) ∷ (tc "list" ((tv "b") ∷ [])) ∷ [])) (ap (cn "list_all2" ((tv "a") ∷ (tv "a") ∷ [])) (bn "x0"))) (ap (cn "map" ((tv "a") ∷ (tv "b") ∷ [])) (bn "x1"))) (ap (cn "map" ((tv "b") ∷ (tv "a") ∷ [])) (bn "x2"))) (ap (cn "list_all2" ((tv "a") ∷ (tv "b") ∷ [])) (bn "x3"))))))))))))))
     ∷ untold (item_command (axiom_item (codes "list_comp") (ap (cn "all" ((fun (tv "a") (fun (tv "b") bool)) ∷ [])) (lm "x0" (fun (tv "a") (fun (tv "b") bool)) (ap (cn "all" ((fun (tv "b") (fun (tv "c") bool)) ∷ [])) (lm "x1" (fun (tv "b") (fun (tv "c") bool)) (ap (ap (cn "eq" ((fun (tc "list" ((tv "a") ∷ [])) (fun (tc "list" ((tv "c") ∷ [])) bool)) ∷ [])) (ap (cn "list_all2" ((tv "a") ∷ (tv "c") ∷ [])) (ap (ap (cn "relcompp" ((tv "a") ∷ (tv "b") ∷ (tv "c") ∷ [])) (bn "x0")) (bn "x1")))) (ap (ap (cn "relcompp" ((tc "list" ((tv "a") ∷ [])) ∷ (tc "list" ((tv "b") ∷ [])) ∷ (tc "list" ((tv "c") ∷ [])) ∷ [])) (ap (cn "list_all2" ((tv "a") ∷ (tv "b") ∷ [])) (bn "x0"))) (ap (cn "list_all2" ((tv "b") ∷ (tv "c") ∷ [])) (bn "x1"))))))))))
-    ∷ untold (relator_command (record { con = codes "list"; rel = codes "list_all2"; mapping = codes "map"; eq = codes "list_eq"; quot = codes "list_quotient"; comp = codes "list_comp" }))
+    ∷ untold (relator_command (codes "list") (codes "list_all2") (codes "map") (codes "list_eq") (codes "list_quotient") (codes "list_comp"))
     ∷ untold (parametric_command (codes "fs"))
     ∷ []
 
@@ -186,7 +186,7 @@ parametrised_rule = untold (item_command (type_item (codes "list") 1))
     ∷ untold (item_command (axiom_item (codes "list_eq") (ap (ap (cn "eq" ((fun (tc "list" ((tv "a") ∷ [])) (fun (tc "list" ((tv "a") ∷ [])) bool)) ∷ [])) (ap (cn "list_all2" ((tv "a") ∷ (tv "a") ∷ [])) (cn "eq" ((tv "a") ∷ [])))) (cn "eq" ((tc "list" ((tv "a") ∷ [])) ∷ [])))))
     ∷ untold (item_command (axiom_item (codes "list_quotient") (ap (cn "all" ((fun (tv "a") (fun (tv "a") bool)) ∷ [])) (lm "x0" (fun (tv "a") (fun (tv "a") bool)) (ap (cn "all" ((fun (tv "a") (tv "b")) ∷ [])) (lm "x1" (fun (tv "a") (tv "b")) (ap (cn "all" ((fun (tv "b") (tv "a")) ∷ [])) (lm "x2" (fun (tv "b") (tv "a")) (ap (cn "all" ((fun (tv "a") (fun (tv "b") bool)) ∷ [])) (lm "x3" (fun (tv "a") (fun (tv "b") bool)) (ap (ap (cn "imp" ([])) (ap (ap (ap (ap (cn "Quotient" ((tv "a") ∷ (tv "b") ∷ [])) (bn "x0")) (bn "x1")) (bn "x2")) (bn "x3"))) (ap (ap (ap (ap (cn "Quotient" ((tc "list" ((tv "a") ∷ [])) ∷ (tc "list" ((tv "b") ∷ [])) ∷ [])) (ap (cn "list_all2" ((tv "a") ∷ (tv "a") ∷ [])) (bn "x0"))) (ap (cn "map" ((tv "a") ∷ (tv "b") ∷ [])) (bn "x1"))) (ap (cn "map" ((tv "b") ∷ (tv "a") ∷ [])) (bn "x2"))) (ap (cn "list_all2" ((tv "a") ∷ (tv "b") ∷ [])) (bn "x3"))))))))))))))
     ∷ untold (item_command (axiom_item (codes "list_comp") (ap (cn "all" ((fun (tv "a") (fun (tv "b") bool)) ∷ [])) (lm "x0" (fun (tv "a") (fun (tv "b") bool)) (ap (cn "all" ((fun (tv "b") (fun (tv "c") bool)) ∷ [])) (lm "x1" (fun (tv "b") (fun (tv "c") bool)) (ap (ap (cn "eq" ((fun (tc "list" ((tv "a") ∷ [])) (fun (tc "list" ((tv "c") ∷ [])) bool)) ∷ [])) (ap (cn "list_all2" ((tv "a") ∷ (tv "c") ∷ [])) (ap (ap (cn "relcompp" ((tv "a") ∷ (tv "b") ∷ (tv "c") ∷ [])) (bn "x0")) (bn "x1")))) (ap (ap (cn "relcompp" ((tc "list" ((tv "a") ∷ [])) ∷ (tc "list" ((tv "b") ∷ [])) ∷ (tc "list" ((tv "c") ∷ [])) ∷ [])) (ap (cn "list_all2" ((tv "a") ∷ (tv "b") ∷ [])) (bn "x0"))) (ap (cn "list_all2" ((tv "b") ∷ (tv "c") ∷ [])) (bn "x1"))))))))))
-    ∷ untold (relator_command (record { con = codes "list"; rel = codes "list_all2"; mapping = codes "map"; eq = codes "list_eq"; quot = codes "list_quotient"; comp = codes "list_comp" }))
+    ∷ untold (relator_command (codes "list") (codes "list_all2") (codes "map") (codes "list_eq") (codes "list_quotient") (codes "list_comp"))
     ∷ untold (parametric_command (codes "fs"))
     ∷ untold (item_command (const_item (codes "nl") (tc "list" ((tv "a") ∷ []))))
     ∷ untold (item_command (axiom_item (codes "nl_resp") (ap (ap (cn "Rf" ((tv "a") ∷ [])) (cn "nl" ((tv "a") ∷ []))) (cn "nl" ((tv "a") ∷ [])))))

@@ -25,3 +25,11 @@ returns-clause-bare c = refl
 pub returns-clause-lifted : goal.returns-clause-lifted
 unfolding digits
 returns-clause-lifted c = (_, refl, refl)
+
+pub returns-clause-loose : goal.returns-clause-loose
+unfolding digits
+returns-clause-loose c = refl
+
+pub returns-clause-bare_typedef : goal.returns-clause-bare_typedef
+unfolding digits
+returns-clause-bare_typedef c = refl

@@ -29,3 +29,7 @@ returns-clause-quotient c = refl
 pub returns-clause-parametric : goal.returns-clause-parametric
 unfolding digits
 returns-clause-parametric c = refl
+
+pub returns-clause-relation : goal.returns-clause-relation
+unfolding digits
+returns-clause-relation c = refl

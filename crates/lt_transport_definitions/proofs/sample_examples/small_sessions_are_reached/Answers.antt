@@ -1,11 +1,10 @@
 use Rattle.std.proofs.Common.{refl}
 use Rattle.std.specs.Prelude.{[], ◌∷◌, codes}
 use Rattle.std.specs.Fmt.{digits}
-use Rattle.lt_transport_definitions.specs.Sessions.{new_session}
-use Rattle.lt_transport_definitions.specs.RefusalSamples.{relcompp_items, relcompp_type, other_relcompp_type}
-use Rattle.lt_transport_definitions.specs.Commands.{corr_command, rule_command}
+use Rattle.lt_texts.specs.Commands.{corr_command, rule_command}
+use Rattle.lt_transport_definitions.specs.OtherSamples.{bare_items}
 use Rattle.lt_transport_definitions.specs.Samples.{behind_laws, session_over, typedef_items, related_items, over_related}
-use Rattle.lt_transport_definitions.proofs.Reached.{new-reached, behind-reached, on, on-items, over-reached}
+use Rattle.lt_transport_definitions.proofs.Reached.{behind-reached, on, on-items, over-reached}
 use Rattle.lt_transport_definitions.proofs.sample_examples.small_sessions_are_reached.Goals as goal
 
 pub returns-clause-typedef : goal.returns-clause-typedef
@@ -22,10 +21,6 @@ returns-clause-related c = on (session_over related_items) over_related
     (corr_command (codes "r") ∷ rule_command (codes "az") ∷ rule_command (codes "ps") ∷ [])
     (over-reached related_items refl) (_, refl, (_, refl, (_, refl, refl)))
 
-pub returns-clause-relcompp : goal.returns-clause-relcompp
+pub returns-clause-bare : goal.returns-clause-bare
 unfolding digits
-returns-clause-relcompp c = on-items (new_session 100) (relcompp_items relcompp_type) new-reached refl
-
-pub returns-clause-other_relcompp : goal.returns-clause-other_relcompp
-unfolding digits
-returns-clause-other_relcompp c = on-items (new_session 100) (relcompp_items other_relcompp_type) new-reached refl
+returns-clause-bare c = over-reached bare_items refl

@@ -4,7 +4,7 @@ use Rattle.std.specs.Fmt.{digits}
 use Rattle.lt_definitions.specs.Types.{bool}
 use Rattle.lt_definitions.specs.Samples.{con}
 use Rattle.lt_transport_definitions.specs.Notation.{◌⇒◌}
-use Rattle.lt_transport_definitions.specs.Commands.{lifting_typedef_command, lift_command, rule_command}
+use Rattle.lt_texts.specs.Commands.{lifting_typedef_command, lift_command, rule_command}
 use Rattle.lt_transport_definitions.specs.Samples.{session_over}
 use Rattle.lt_transport_definitions.proofs.Reached.{on, over-reached}
 use Rattle.lt_transport_laws.specs.BoundedSamples.{t, bounded_items, over_bounded, predicate_quotient}

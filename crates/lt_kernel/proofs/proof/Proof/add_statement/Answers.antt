@@ -3,6 +3,7 @@ use Rattle.lt_definitions.specs.Types.{Chars, found}
 use Rattle.lt_types.proofs.NameTables.{inserted-new, none-found}
 use Rattle.lt_kernel.specs.State.{State}
 use Rattle.lt_kernel.specs.Sequents.{NamedWithin}
+use Rattle.lt_kernel.proofs.DerivedLines.{derived-named}
 use Rattle.lt_kernel.proofs.StateLemmas.{named-push}
 use Rattle.lt_kernel.proofs.proof.Proof.add_statement.Goals as goal
 
@@ -16,6 +17,7 @@ invariant_of-self-2 g c =
       steps = c.self.invariant.steps;
       named = subst (λ (es : List (Chars × ℕ)). NamedWithin (length ns) es) (sym is)
           (named-push (length ns) inside.named.entries (c.args.label, c.args.statement) c.self.invariant.named (subst (λ (s : State). c.args.statement < length s.nodes) (sym c.self.view_is) c.requires));
+      derived = derived-named ns inside.signature inside.named.entries c.insert.new.self.entries inside.steps.items (c.args.label, c.args.statement) is c.self.invariant.derived;
     }
 
 pub returns : goal.returns

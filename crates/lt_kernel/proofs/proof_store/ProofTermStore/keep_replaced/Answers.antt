@@ -1,7 +1,21 @@
-use Rattle.std.proofs.Common.{sym, subst}
+use Rattle.std.proofs.Common.{List, length, sym, subst}
 use Rattle.lt_store.specs.Replaced.{IsReplacing}
+use Rattle.lt_store.specs.declared.node.Node.{Node}
 use Rattle.lt_kernel.specs.State.{State}
+use Rattle.lt_kernel.specs.Derived.{AreDerived}
+use Rattle.lt_kernel.specs.Sequents.{AreWithin, NamedWithin}
+use Rattle.lt_kernel.proofs.StateLemmas.{state}
 use Rattle.lt_kernel.proofs.proof_store.ProofTermStore.keep_replaced.Goals as goal
 
 pub keep_replaced-requires : goal.keep_replaced-requires
 keep_replaced-requires g c = subst (λ (s : State). IsReplacing s.nodes c.args.replacing) (sym c.self.view_is) c.requires
+
+pub invariant_of-self : goal.invariant_of-self
+invariant_of-self g c =
+    let inside = c.self.inside in
+    let same = sym c.keep_replaced.ensures in
+    record {
+      steps = subst (λ (ns : List Node). AreWithin (length ns) inside.steps.items) same c.self.invariant.steps;
+      named = subst (λ (ns : List Node). NamedWithin (length ns) inside.named.entries) same c.self.invariant.named;
+      derived = subst (λ (ns : List Node). AreDerived (state ns inside.signature inside.named.entries inside.steps.items)) same c.self.invariant.derived;
+    }

@@ -5,8 +5,6 @@ use Rattle.lt_shared.proofs.shared_store.SharedStoreTermStore.keep_replaced.Goal
 
 pub invariant_of-self : goal.invariant_of-self
 invariant_of-self c = record {
-  grounded = c.self.invariant.grounded;
-  separate = c.self.invariant.separate;
   bounded = c.self.invariant.bounded;
   replaced = subst (λ (ns : List Node). IsReplacing ns c.args.replacing) (sym c.self.view_is) c.requires;
 }
