@@ -133,9 +133,10 @@ pub at_found : (held : List File) (names : List (List ℕ)) (j : Joined) (place 
     → (p : InFile) → in_file held place ≡ Some p → (slice_get names file ≡ Some p.name) × (take k (drop from j.text.items) ≡ p.before)
 at_found held names j place file from k h are joined here (le, most, one) p is =
     let this : in_file held place ≡ Some (record { name = h.f.name; before = take (place - from) h.f.bytes }) = h.same ∙ this-file h.f h.rest (place - from) (last-or here) in
-    let same : p ≡ record { name = h.f.name; before = take (place - from) h.f.bytes } = some-inj (sym is ∙ this) in
-    (ap (λ (z : List (List ℕ)). slice_get z file) are ∙ get-at (λ (g : File). g.name) held place file from h ∙ ap (λ (z : InFile). Some z.name) (sym same),
-    front-bytes held j place file from k h joined most ∙ fronts one ∙ ap (λ (z : InFile). z.before) (sym same))
+    let same : p ≡ record { name = h.f.name; before = take (place - from) h.f.bytes } = some-inj (sym is ∙ this) in (
+      ap (λ (z : List (List ℕ)). slice_get z file) are ∙ get-at (λ (g : File). g.name) held place file from h ∙ ap (λ (z : InFile). Some z.name) (sym same),
+      front-bytes held j place file from k h joined most ∙ fronts one ∙ ap (λ (z : InFile). z.before) (sym same),
+    )
   where
     some-inj : {A : Type 0} {x y : A} → Some x ≡ Some y → x ≡ y
     some-inj e = cc e

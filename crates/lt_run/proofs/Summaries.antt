@@ -33,10 +33,11 @@ summary_accepted items = encodes-append (summary_lines items) (count_line items)
 -- what a summary has behind the lines of the first items
 pub summary_front : (items more : List Item) (end : End Refusal) → (rest : List ℕ) × (summary_of (items ++ more) end ≡ lines_of items ++ rest)
 unfolding summary_of
-summary_front items more accepted =
-    (lines_of more ++ encode_utf8_all (count_line (items ++ more)),
-    encodes-append (summary_lines (items ++ more)) (count_line (items ++ more)) ∙ ap (λ (z : List ℕ). z ++ encode_utf8_all (count_line (items ++ more))) (lines_both items more)
-    ∙ append_assoc (lines_of items) (lines_of more) (encode_utf8_all (count_line (items ++ more))))
+summary_front items more accepted = (
+  lines_of more ++ encode_utf8_all (count_line (items ++ more)),
+  encodes-append (summary_lines (items ++ more)) (count_line (items ++ more)) ∙ ap (λ (z : List ℕ). z ++ encode_utf8_all (count_line (items ++ more))) (lines_both items more)
+      ∙ append_assoc (lines_of items) (lines_of more) (encode_utf8_all (count_line (items ++ more))),
+)
 summary_front items more too_long = (lines_of more, lines_both items more)
 summary_front items more (wrong_header e) = (lines_of more, lines_both items more)
 summary_front items more (unread e) = (lines_of more, lines_both items more)

@@ -80,8 +80,11 @@ pub way_ends : (text : List ℕ) (items new : List Item) (s : Left) (a b c : Opt
 unfolding IsEnd
 way_ends text items new s a b c h k e line =
     subst (λ (xs : List Item). Grew b c (encode_utf8_all (count_line (items_of xs))) → ChecksText text (items_of xs) accepted × Grew a c (summary_of {R = Refusal} (items_of xs) accepted)) (sym e)
-    (λ counts. (at_end text s items h.comes k, subst (λ (z : List ℕ). Grew a c z) (sym (summary_accepted (items_of items)))
-    (Grew-append a b c (lines_of (items_of items)) (encode_utf8_all (count_line (items_of items))) h.grew counts))) line
+    (λ counts. (
+      at_end text s items h.comes k,
+      subst (λ (z : List ℕ). Grew a c z) (sym (summary_accepted (items_of items)))
+          (Grew-append a b c (lines_of (items_of items)) (encode_utf8_all (count_line (items_of items))) h.grew counts),
+    )) line
 
 pub way_cut_in_counts : (text : List ℕ) (items new : List Item) (s : Left) (a b c : Option (List ℕ)) → IsOnWay text items s a b → AtEnd plain_text s → new ≡ items
     → GrewByFront b c (encode_utf8_all (count_line (items_of new))) → IsCut text (items_of new) a c
@@ -89,10 +92,14 @@ unfolding IsCut
 way_cut_in_counts text items new s a b c h k e front =
     subst (λ (xs : List Item). GrewByFront b c (encode_utf8_all (count_line (items_of xs)))
     → (more : List theory.Item) × (end : End Refusal) × ChecksText text (items_of xs ++ more) end × GrewByFront a c (summary_of (items_of xs ++ more) end)) (sym e)
-    (λ counts. ([], accepted, subst (λ (z : List theory.Item). ChecksText text z accepted) (sym (append-nil (items_of items))) (at_end text s items h.comes k),
-    subst (λ (z : List theory.Item). GrewByFront a c (summary_of {R = Refusal} z accepted)) (sym (append-nil (items_of items)))
-    (subst (λ (z : List ℕ). GrewByFront a c z) (sym (summary_accepted (items_of items)))
-    (front_behind a b c (lines_of (items_of items)) (encode_utf8_all (count_line (items_of items))) h.grew counts)))) front
+    (λ counts. (
+      [],
+      accepted,
+      subst (λ (z : List theory.Item). ChecksText text z accepted) (sym (append-nil (items_of items))) (at_end text s items h.comes k),
+      subst (λ (z : List theory.Item). GrewByFront a c (summary_of {R = Refusal} z accepted)) (sym (append-nil (items_of items)))
+          (subst (λ (z : List ℕ). GrewByFront a c z) (sym (summary_accepted (items_of items)))
+          (front_behind a b c (lines_of (items_of items)) (encode_utf8_all (count_line (items_of items))) h.grew counts)),
+    )) front
 
 -- ---- what is refused
 

@@ -25,9 +25,9 @@ files-preserved c = λ held are joined.
 
 pub returns : goal.returns
 returns c = elim c.files-test.branch [
-    then-files-test+else-place-from w ↦ found_by c.args.names.now c.args.joined.now c.args.place c.files.file c.files.from c.index-2.result.now c.least-within.result c.requires c.files.invariant c.index-2.ensures
-        c.least-within.ensures.first c.least-within.ensures.second c.least-within.ensures.one c.least-within.ensures.other (inr (w.index.result.now, w.index.ensures, w.if-place-from.false))
+  | then-files-test+else-place-from w ↦ found_by c.args.names.now c.args.joined.now c.args.place c.files.file c.files.from c.index-2.result.now c.least-within.result c.requires c.files.invariant c.index-2.ensures
+      c.least-within.ensures.first c.least-within.ensures.second c.least-within.ensures.one c.least-within.ensures.other (inr (w.index.result.now, w.index.ensures, w.if-place-from.false))
   | else-files-test w ↦ found_by c.args.names.now c.args.joined.now c.args.place c.files.file c.files.from c.index-2.result.now c.least-within.result c.requires c.files.invariant c.index-2.ensures
-        c.least-within.ensures.first c.least-within.ensures.second c.least-within.ensures.one c.least-within.ensures.other
-        (inl (omega (arith, w.files-test.false, c.len.ensures, c.args.joined.now.lengths.ok.0)))
-  ]
+      c.least-within.ensures.first c.least-within.ensures.second c.least-within.ensures.one c.least-within.ensures.other
+      (inl (omega (arith, w.files-test.false, c.len.ensures, c.args.joined.now.lengths.ok.0)))
+]
