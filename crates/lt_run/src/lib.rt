@@ -1,6 +1,7 @@
 //! The top call: reads the words, the files and their theory, and writes what was found.
 #![tactic(auto)]
 
+mod check;
 mod counts;
 mod ended;
 mod files;
@@ -8,6 +9,7 @@ mod places;
 mod report;
 mod run;
 mod sure;
+mod telling;
 mod walk;
 mod words;
 

@@ -1,6 +1,6 @@
 use Rattle.lt_extend.specs.Theories.{items_of}
 use Rattle.lt_run.proofs.Statuses.{told_accepted, cut_of_end}
-use Rattle.lt_run.proofs.run.check_into.Goals as goal
+use Rattle.lt_run.proofs.check.check_into.Goals as goal
 
 pub returns-in-Ok-clause-accepted : goal.returns-in-Ok-clause-accepted
 returns-in-Ok-clause-accepted g c = λ zero.

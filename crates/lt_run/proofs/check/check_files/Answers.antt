@@ -4,7 +4,7 @@ use Rattle.lt_walks.specs.Walks.{too_long}
 use Rattle.lt_run.proofs.Fronts.{Grew-none}
 use Rattle.lt_run.proofs.Joins.{name_at}
 use Rattle.lt_run.proofs.Told.{joined_some, told_ends, front_told, passed_ends}
-use Rattle.lt_run.proofs.run.check_files.Goals as goal
+use Rattle.lt_run.proofs.check.check_files.Goals as goal
 
 pub check_joined-requires : goal.check_joined-requires
 check_joined-requires g c = joined_some _ c.args.names.now c.in-Ok.joined c.in-Ok.ensures.joined c.requires
