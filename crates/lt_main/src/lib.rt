@@ -16,7 +16,8 @@ pub fn run(rt: &HostRuntime) -> ExitCode {
     let mut lib = FileLibrary::new(rt.alloc(), rt);
     let mut out = StdSink::new(rt.stdout());
     let mut err = StdSink::new(rt.stderr());
-    ExitCode::from(lt(rt.alloc(), &words, &mut lib, &mut out, &mut err))
+    let ended = lt(rt.alloc(), &words, &mut lib, &mut out, &mut err);
+    ExitCode::from(ended.status)
 }
 
 /// The words behind the program's name. Arguments of which one is no text are no words.

@@ -143,9 +143,9 @@ fn run(
     }
     let mut out = MemorySink::new(alloc, outs.to_vec(alloc)?, row.out.room)?;
     let mut err = MemorySink::new(alloc, errs.to_vec(alloc)?, row.err.room)?;
-    let status = lt(alloc, &words, &mut lib, &mut out, &mut err);
+    let ended = lt(alloc, &words, &mut lib, &mut out, &mut err);
     Ok(Ran {
-        status,
+        status: ended.status,
         out: out.bytes().to_vec(alloc)?,
         err: err.bytes().to_vec(alloc)?,
     })
@@ -161,9 +161,9 @@ fn run_sure(alloc: Global, row: &Row) -> Result<Ran, RowFault> {
     }
     let mut out = SureSink::new(alloc, row.out.room)?;
     let mut err = SureSink::new(alloc, row.err.room)?;
-    let status = lt_sure(alloc, &words, &mut lib, &mut out, &mut err);
+    let ended = lt_sure(alloc, &words, &mut lib, &mut out, &mut err);
     Ok(Ran {
-        status,
+        status: ended.status,
         out: out.bytes().unwrap_or(&[]).to_vec(alloc)?,
         err: err.bytes().unwrap_or(&[]).to_vec(alloc)?,
     })

@@ -1,7 +1,9 @@
-pub mod Lists
-pub mod Forms
-pub mod Lengths
 pub mod Fronts
-pub mod WalkEnds
-pub mod OnTheWay
+pub mod Joins
+pub mod InFiles
+pub mod Summaries
+pub mod Walking
 pub mod Told
+pub mod Lines
+pub mod WordLists
+pub mod Statuses

@@ -1,136 +1,206 @@
--- What the statuses say of the named file's text.
-use Rattle.std.proofs.Common.{◌≡◌, ◌⊎◌, inl, inr, ℕ, zero, suc, ◌<◌, List, [], ◌∷◌, ◌++◌, length, Option, Some, None, refl, sym, ◌≢◌, ◌∙◌, ap, subst, arith, length-append}
-use Rattle.std.specs.Prelude.{IsSome}
-use Rattle.lt_definitions.specs.Items.{Item}
-use Rattle.lt_texts.proofs.OneEnding.{one_ending}
-use Rattle.lt_texts.specs.declared.walks.Ending.{Ending}
-use Rattle.lt_texts.specs.declared.walks.Ending.TheVariants.{Accepted, TooLong}
-use Rattle.lt_texts.specs.Walks.{plain_limit, Walk, reported, error_line}
-use Rattle.lt_io.specs.Files.{Files, HoldsFile, StaysSame, StaysTold}
-use Rattle.lt_io.specs.Written.{Grew}
-use Rattle.lt_run.specs.Reports.{HasText, IsTextOf, IsReported, IsCutShort, Ends, Stops}
+-- What comes of the named files' text, by what was told of it.
+use Rattle.std.proofs.Common.{◌≡◌, ◌≢◌, ◌⊎◌, inl, inr, ℕ, zero, suc, ◌+◌, ◌<◌, ◌≤◌, List, [], ◌∷◌, ◌++◌, length, Option, Some, None, refl, sym, ◌∙◌, ap, subst, arith, length-append, append-nil, codes}
+use Rattle.std.specs.Prelude.{IsSome, slice_get, encode_utf8_all}
+use Rattle.lt_definitions.specs.Items.{Item, Context, empty, with_item}
+use Rattle.lt_definitions.specs.Theory.{Refusal, AreValid, IsPlainTheory}
+use Rattle.lt_definitions.specs.Printing.{summary_lines}
+use Rattle.lt_texts.specs.Files.{File, joined_text, first_past, in_file, InFile}
+use Rattle.lt_texts.specs.Walks.{plain_limit}
+use Rattle.lt_io.specs.Files.{Files, StaysSame}
+use Rattle.lt_io.specs.Written.{Grew, GrewByFront}
+use Rattle.lt_walks.specs.Walks.{End, accepted, too_long}
+use Rattle.lt_walks.specs.PlainWalks.{ChecksText, Checks}
+use Rattle.lt_walks.specs.Outputs.{summary_of, check_line}
+use Rattle.lt_walks.specs.Calls.{AreCheckWords, AreNamed, AreRead, CheckEnds, CheckStops}
 use Rattle.lt_run.specs.Words.{AreWords}
+use Rattle.lt_walks.proofs.PlainWalkLemmas.{check_within, check_too_long, check_parts, texts_accept, checks_accept, one_check, accepted_exactly}
+use Rattle.lt_run.specs.declared.files.Joined.{Joined}
+use Rattle.lt_run.specs.Joining.{AreIn, KeepsTold, HoldsAll, IsJoinedOf, AreJoined, IsPassed}
+use Rattle.lt_run.specs.Places.{AreNames, IsJoinedOfSome}
+use Rattle.lt_run.specs.Walked.{IsCut, IsEnd}
+use Rattle.lt_run.specs.Endings.{IsTold}
 use Rattle.lt_run.proofs.Fronts.{Grew-none, front_all}
+use Rattle.lt_run.proofs.Joins.{names_of, joined_parts}
 
--- the file's bytes with a line feed behind them
-pub text_made : (files : Option Files) (file bytes text : List ℕ) → HoldsFile files file (λ f. bytes ≡ f) → text ≡ bytes ++ 10 ∷ [] → IsTextOf files file text
-unfolding IsTextOf
-text_made None file bytes text h e = tt
-text_made (Some held) file bytes text h e = (h.0, h.1, e ∙ ap (λ (z : List ℕ). z ++ 10 ∷ []) h.2)
+-- ---- files that were joined
 
--- there is a text that is longer
-long : (n : ℕ) → (text : List ℕ) × (n < length text)
-long zero = (0 ∷ [], omega arith)
-long (suc n) = let shorter = long n in (0 ∷ shorter.0, omega (arith, shorter.1))
+all-read : (files : Option Files) (names : List (List ℕ)) (held : List File) → AreNamed files names held → AreRead files names held
+all-read files names held h = record { first = names; others = []; order = sym (append-nil names); named = h; all = inl refl }
 
--- the text of a file that is too long is too long
-pub text_too_long : (files : Option Files) (file : List ℕ) → HoldsFile files file (λ f. 268435455 < length f) → (text : List ℕ) × IsTextOf files file text × (plain_limit < length text)
-unfolding IsTextOf
-text_too_long None file h = let text = long plain_limit in (text.0, tt, text.1)
-text_too_long (Some held) file h = (h.0 ++ 10 ∷ [], (h.0, h.1, refl), omega (arith, length-append h.0 (10 ∷ []), h.2))
+pub joined_some : (files : Option Files) (names : List (List ℕ)) (j : Joined) → AreJoined files names j → 0 < length names → IsJoinedOfSome names j
+joined_some files names j h some = record { held = h.held; named = names_of files names h.held h.named; joined = h.joined; some = held-some files names h.held h.named some }
+  where
+    held-some : (files : Option Files) (names : List (List ℕ)) (held : List File) → AreNamed files names held → 0 < length names → 0 < length held
+    held-some files [] held h some = absurd (omega (arith, some))
+    held-some files (n ∷ names) [] h some = absurd h
+    held-some files (n ∷ names) (f ∷ held) h some = omega arith
 
-reported_too_long : (text : List ℕ) (a : Option (List ℕ)) → plain_limit < length text → IsReported text TooLong a a
-unfolding IsReported Walk reported
-reported_too_long text a h = ([], (h, refl), Grew-none a)
+pub told_ends : (files : Option Files) (names : List (List ℕ)) (j : Joined) (items : List Item) (end : End Refusal) (out out' err err' : Option (List ℕ)) → AreJoined files names j
+    → IsTold names j items end out out' err err' → CheckEnds files names items end out out' err err'
+unfolding CheckEnds IsEnd
+told_ends files names j items end out out' err err' h t =
+    let walked = t.walked in (
+      h.held,
+      all-read files names h.held h.named,
+      subst (λ (text : List ℕ). Checks text items end) h.joined.text (check_within j.text.items items end h.short walked.0),
+      texts_accept j.text.items items end walked.0,
+      walked.1,
+      t.line h.held (names_of files names h.held h.named) h.joined,
+    )
 
-pub ends_too_long : (files : Option Files) (file : List ℕ) (a e e' : Option (List ℕ)) → (text : List ℕ) × IsTextOf files file text × (plain_limit < length text)
-    → Grew e e' (error_line file TooLong) → Ends files file TooLong a a e e'
-unfolding Ends
-ends_too_long files file a e e' (text, is, h) line = (text, is, reported_too_long text a h, line)
+-- the first items of a valid plain theory are one
+front-valid : (items more : List Item) → IsPlainTheory (items ++ more) → IsPlainTheory items
+front-valid items more h = by empty items h
+  where
+    by : (ctx : Context) (xs : List Item) → AreValid ctx (xs ++ more) → AreValid ctx xs
+    by ctx [] v = tt
+    by ctx (x ∷ xs) (e, v) = (e, by (with_item ctx x) xs v)
 
-pub ends_made : (files : Option Files) (file text : List ℕ) (ending : Ending) (out out' err err' : Option (List ℕ)) → IsTextOf files file text → IsReported text ending out out'
-    → Grew err err' (error_line file ending) → Ends files file ending out out' err err'
-unfolding Ends
-ends_made files file text ending out out' err err' is r line = (text, is, r, line)
+pub cut_stops : (files : Option Files) (names : List (List ℕ)) (j : Joined) (items : List Item) (out out' : Option (List ℕ)) → AreJoined files names j → IsCut j.text.items items out out'
+    → CheckStops files names items out out'
+unfolding CheckStops IsCut
+cut_stops files names j items out out' h (more, end, w, front) = (
+  h.held,
+  all-read files names h.held h.named,
+  more,
+  end,
+  subst (λ (text : List ℕ). Checks text (items ++ more) end) h.joined.text (check_within j.text.items (items ++ more) end h.short w),
+  front-valid items more (texts_accept j.text.items (items ++ more) end w),
+  front,
+)
 
--- by the ending's other name
-pub ends_as : (files : Option Files) (file : List ℕ) (ending other : Ending) (out out' err err' : Option (List ℕ)) → ending ≡ other → Ends files file ending out out' err err'
-    → Ends files file other out out' err err'
-ends_as files file ending other out out' err err' e h = subst (λ (z : Ending). Ends files file z out out' err err') e h
+-- nothing came of it, or it was cut short
+pub front_told : {P : Type 0} (files : Option Files) (names : List (List ℕ)) (j : Joined) (items : List Item) (out out' : Option (List ℕ)) → AreJoined files names j → P ⊎ IsCut j.text.items items out out'
+    → P ⊎ CheckStops files names items out out'
+front_told files names j items out out' h (inl p) = inl p
+front_told files names j items out out' h (inr c) = inr (cut_stops files names j items out out' h c)
 
-pub stops_made : (files : Option Files) (file text : List ℕ) (out out' : Option (List ℕ)) → IsTextOf files file text → Grew out out' [] ⊎ IsCutShort text out out'
-    → Grew out out' [] ⊎ Stops files file out out'
-unfolding Stops
-stops_made files file text out out' is (inl none) = inl none
-stops_made files file text out out' is (inr cut) = inr (text, is, cut)
+-- ---- a text that is too long
 
--- all of what is reported is a front of it
-pub cut_of_reported : (text : List ℕ) (ending : Ending) (out out' : Option (List ℕ)) → IsReported text ending out out' → IsCutShort text out out'
-unfolding IsReported IsCutShort
-cut_of_reported text ending out out' (items, walk, grew) = (items, ending, walk, front_all out out' (reported items ending) grew)
+pub passed_ends : (files : Option Files) (names : List (List ℕ)) (n : ℕ) (name : List ℕ) (items : List Item) (out err err' : Option (List ℕ)) → IsPassed files names n → slice_get names n ≡ Some name
+    → items ≡ [] → Grew err err' (name ++ codes ": TooLong\n") → CheckEnds files names items too_long out out err err'
+unfolding CheckEnds check_line summary_of
+passed_ends files names n name items out err err' h at none line =
+    let same : Some name ≡ Some (first_past h.held plain_limit) = sym at ∙ h.name in
+    let file : name ≡ first_past h.held plain_limit = cc same in (
+      h.held,
+      h.read,
+      subst (λ (xs : List Item). Checks (joined_text h.held) xs too_long) (sym none) (check_too_long (joined_text h.held) h.long),
+      subst (λ (xs : List Item). IsPlainTheory xs) (sym none) tt,
+      subst (λ (xs : List Item). Grew out out (encode_utf8_all (summary_lines xs))) (sym none) (Grew-none out),
+      subst (λ (z : List ℕ). Grew err err' (z ++ codes ": TooLong\n")) file line,
+    )
 
--- by the words that name the file
-pub stops_by_words : (files : Option Files) (words : List (List ℕ)) (file : List ℕ) (out out' : Option (List ℕ)) → AreWords words file → Grew out out' [] ⊎ Stops files file out out'
-    → Grew out out' [] ⊎ ((f : List ℕ) × AreWords words f × Stops files f out out')
-stops_by_words files words file out out' are (inl none) = inl none
-stops_by_words files words file out out' are (inr stops) = inr (file, are, stops)
+-- ---- over what never fails
 
--- ---- where nothing fails
+named-once : (told : Files) (names : List (List ℕ)) (xs ys : List File) → AreNamed (Some told) names xs → AreNamed (Some told) names ys → xs ≡ ys
+named-once told [] [] [] h k = refl
+named-once told [] [] (y ∷ ys) h k = absurd k
+named-once told [] (x ∷ xs) ys h k = absurd h
+named-once told (n ∷ names) [] ys h k = absurd h
+named-once told (n ∷ names) (x ∷ xs) [] h k = absurd k
+named-once told (n ∷ names) (x ∷ xs) (y ∷ ys) (e, b, h) (f, c, k) =
+    let bytes : Some x.bytes ≡ Some y.bytes = sym b ∙ ap told (e ∙ sym f) ∙ c in
+    let one : x.bytes ≡ y.bytes = cc bytes in
+    λ i. record { name = (e ∙ sym f) i; bytes = one i } ∷ named-once told names xs ys h k i
 
-same-bytes : (o : Option (List ℕ)) (x y : List ℕ) → o ≡ Some x → o ≡ Some y → x ≡ y
-same-bytes o x y e f = let both : Some x ≡ Some y = sym e ∙ f in cc both
+-- the first of the files
+named-front : (told : Files) (first others : List (List ℕ)) (xs ys : List File) → AreNamed (Some told) (first ++ others) xs → AreNamed (Some told) first ys → (rest : List File) × (xs ≡ ys ++ rest)
+named-front told [] others xs [] h k = (xs, refl)
+named-front told [] others xs (y ∷ ys) h k = absurd k
+named-front told (n ∷ first) others [] ys h k = absurd h
+named-front told (n ∷ first) others (x ∷ xs) [] h k = absurd k
+named-front told (n ∷ first) others (x ∷ xs) (y ∷ ys) (e, b, h) (f, c, k) =
+    let bytes : Some x.bytes ≡ Some y.bytes = sym b ∙ ap told (e ∙ sym f) ∙ c in
+    let one : x.bytes ≡ y.bytes = cc bytes in
+    let rest = named-front told first others xs ys h k in
+    (rest.0, λ i. record { name = (e ∙ sym f) i; bytes = one i } ∷ rest.1 i)
 
-is-told : (held : Option (List ℕ)) (bytes : List ℕ) → held ≡ Some bytes → IsSome held
-is-told held bytes e = subst (λ (z : Option (List ℕ)). IsSome z) (sym e) refl
+are-in : (told : Files) (names : List (List ℕ)) (held : List File) → AreNamed (Some told) names held → AreIn told names
+are-in told [] held h = tt
+are-in told (n ∷ names) [] h = absurd h
+are-in told (n ∷ names) (f ∷ held) (e, b, h) = (subst (λ (z : List ℕ). IsSome (told z)) e (subst (λ (z : Option (List ℕ)). IsSome z) (sym b) refl), are-in told names held h)
 
--- what is told behind the call is the text that was told before
-one_text : (files files' : Option Files) (file text other : List ℕ) → StaysSame files files' → StaysTold files files' file → HasText files file text → IsTextOf files' file other → text ≡ other
-unfolding HasText IsTextOf
-one_text None files' file text other same told (held, bytes, e, f, t) is = absurd (cc e)
-one_text (Some before) None file text other same told (held, bytes, e, f, t) is =
-    let agree : before ≡ held = cc e in
-    let lost : IsSome {T = Files} None = told (subst (λ (z : Files). IsSome (z file)) (sym agree) (is-told (held file) bytes f)) in
+-- What was held before the call is told behind it: the files that were read are those, or the first of them where these are too long already.
+one_read : (old now : Option Files) (names : List (List ℕ)) (held read : List File) → StaysSame old now → KeepsTold old now names → HoldsAll old names held → AreRead now names read
+    → (read ≡ held) ⊎ ((plain_limit < length (joined_text read)) × (plain_limit < length (joined_text held)))
+one_read None now names held read same keeps (told, e, h) r = absurd (cc e)
+one_read (Some before) None names held read same keeps (told, e, h) r =
+    let agree : before ≡ told = cc e in
+    let lost : IsSome {T = Files} None = keeps (subst (λ (z : Files). AreIn z names) (sym agree) (are-in told names held h)) in
     absurd (cc lost)
-one_text (Some before) (Some now) file text other same told (held, bytes, e, f, t) (bytes', f', t') =
-    let agree : held ≡ now = cc (e, same) in
-    let one : bytes ≡ bytes' = same-bytes (now file) bytes bytes' (subst (λ (z : Files). z file ≡ Some bytes) agree f) f' in
-    t ∙ ap (λ (z : List ℕ). z ++ 10 ∷ []) one ∙ sym t'
+one_read (Some before) (Some now) names held read same keeps (told, e, h) r = by r.all
+  where
+    agree : told ≡ now
+    agree = cc (e, same)
 
--- a text that is accepted isn't refused
-pub not_refused : (files files' : Option Files) (words : List (List ℕ)) (file text : List ℕ) (items : List Item) (out out' err err' : Option (List ℕ))
-    → StaysSame files files' → StaysTold files files' file → AreWords words file → HasText files file text → Walk text items Accepted
-    → (f : List ℕ) × (ending : Ending) × AreWords words f × (ending ≢ Accepted) × Ends files' f ending out out' err err' → ⊥
-unfolding Ends IsReported
-not_refused files files' words file text items out out' err err' same told are has walk (f, ending, are', wrong, (other, is, (items', walk', grew), line)) =
-    let named : f ≡ file = cc (are, are') in
-    let one : text ≡ other = one_text files files' file text other same told has (subst (λ (z : List ℕ). IsTextOf files' z other) named is) in
-    let both = one_ending other items items' Accepted ending (subst (λ (z : List ℕ). Walk z items Accepted) one walk) walk' in
-    wrong (sym both.1)
+    mine : AreNamed (Some now) (r.first ++ r.others) held
+    mine = subst (λ (z : List (List ℕ)). AreNamed (Some now) z held) r.order (subst (λ (z : Files). AreNamed (Some z) names held) agree h)
 
-pub accepts_valid : (status : ℕ) (files files' : Option Files) (words : List (List ℕ)) (file text : List ℕ) (items : List Item) (out out' err err' : Option (List ℕ))
-    → StaysSame files files' → ((g : List ℕ) → AreWords words g → StaysTold files files' g) → AreWords words file → HasText files file text → Walk text items Accepted
+    by : (r.others ≡ []) ⊎ (plain_limit < length (joined_text read)) → (read ≡ held) ⊎ ((plain_limit < length (joined_text read)) × (plain_limit < length (joined_text held)))
+    by (inl none) =
+        let all : AreNamed (Some now) r.first held = subst (λ (z : List (List ℕ)). AreNamed (Some now) z held) (ap (λ (z : List (List ℕ)). r.first ++ z) none ∙ append-nil r.first) mine in
+        inl (named-once now r.first read held r.named all)
+    by (inr long) =
+        let rest = named-front now r.first r.others held read mine r.named in
+        let size : length (joined_text held) ≡ length (joined_text read) + length (joined_text rest.0) =
+        ap (λ (z : List File). length (joined_text z)) rest.1 ∙ ap length (joined_parts read rest.0) ∙ length-append (joined_text read) (joined_text rest.0) in
+        inr (long, omega (arith, long, size))
+
+same-check : (words : List (List ℕ)) (names others : List (List ℕ)) → AreCheckWords words names → AreCheckWords words others → names ≡ others
+same-check words names others (f, fs, e, k) (g, gs, d, l) = cc (sym k ∙ l)
+
+same-words : (words : List (List ℕ)) (names others : List (List ℕ)) → AreWords words names → AreWords words others → names ≡ others
+same-words words names others h k = same-check words names others h.check k.check
+
+one_end : (files now : Option Files) (words : List (List ℕ)) (names others : List (List ℕ)) (held : List File) (items found : List Item) (end last : End Refusal) (out out' err err' : Option (List ℕ))
+    → StaysSame files now → ((ns : List (List ℕ)) → AreWords words ns → KeepsTold files now ns) → AreWords words names → HoldsAll files names held → Checks (joined_text held) items end
+    → AreWords words others → CheckEnds now others found last out out' err err' → (found ≡ items) × (last ≡ end)
+unfolding CheckEnds
+one_end files now words names others held items found end last out out' err err' same told are has walk are' (read, r, w, v, p, q) =
+    let named : others ≡ names = same-words words others names are' are in
+    by (one_read files now names held read same (told names are) has (subst (λ (z : List (List ℕ)). AreRead now z read) named r))
+  where
+    by : (read ≡ held) ⊎ ((plain_limit < length (joined_text read)) × (plain_limit < length (joined_text held))) → (found ≡ items) × (last ≡ end)
+    by (inl e) = one_check (joined_text held) found items last end (subst (λ (z : List File). Checks (joined_text z) found last) e w) walk
+    by (inr (long, also)) =
+        let here = one_check (joined_text read) found [] last too_long w (check_too_long (joined_text read) long) in
+        let there = one_check (joined_text held) items [] end too_long walk (check_too_long (joined_text held) also) in
+        (here.0 ∙ sym there.0, here.1 ∙ sym there.1)
+
+-- The status of a call over what never fails, and its items, by how the walk through the files ends.
+pub accepts_valid : (status : ℕ) (files now : Option Files) (words names : List (List ℕ)) (held : List File) (items found : List Item) (out out' err err' : Option (List ℕ))
+    → StaysSame files now → ((ns : List (List ℕ)) → AreWords words ns → KeepsTold files now ns) → AreWords words names → HoldsAll files names held → Checks (joined_text held) items accepted
     → (status ≡ 0) ⊎ (status ≡ 1) ⊎ (status ≡ 2) ⊎ (status ≡ 5)
-    → (status ≡ 1 → (f : List ℕ) × (ending : Ending) × AreWords words f × (ending ≢ Accepted) × Ends files' f ending out out' err err')
-    → (status ≡ 2 → (g : List ℕ) → AreWords words g → ⊥)
-    → (status ≡ 0) ⊎ (status ≡ 5)
-accepts_valid status files files' words file text items out out' err err' same told are has walk (inl accepted) refused other = inl accepted
-accepts_valid status files files' words file text items out out' err err' same told are has walk (inr (inl one)) refused other =
-    absurd (not_refused files files' words file text items out out' err err' same (told file are) are has walk (refused one))
-accepts_valid status files files' words file text items out out' err err' same told are has walk (inr (inr (inl two))) refused other = absurd (other two file are)
-accepts_valid status files files' words file text items out out' err err' same told are has walk (inr (inr (inr five))) refused other = inr five
+    → (status ≡ 0 → (ns : List (List ℕ)) × AreWords words ns × CheckEnds now ns found accepted out out' err err')
+    → (status ≡ 1 → (ns : List (List ℕ)) × (end : End Refusal) × AreWords words ns × (end ≢ accepted) × CheckEnds now ns found end out out' err err')
+    → (status ≡ 2 → (ns : List (List ℕ)) → AreWords words ns → ⊥)
+    → ((status ≡ 0) × (found ≡ items)) ⊎ (status ≡ 5)
+accepts_valid status files now words names held items found out out' err err' same told are has walk (inl zero') good bad other =
+    let g = good zero' in
+    inl (zero', (one_end files now words names g.0 held items found accepted accepted out out' err err' same told are has walk g.1 g.2).0)
+accepts_valid status files now words names held items found out out' err err' same told are has walk (inr (inl one)) good bad other =
+    let b = bad one in
+    absurd (b.3 (one_end files now words names b.0 held items found accepted b.1 out out' err err' same told are has walk b.2 b.4).1)
+accepts_valid status files now words names held items found out out' err err' same told are has walk (inr (inr (inl two))) good bad other = absurd (other two names are)
+accepts_valid status files now words names held items found out out' err err' same told are has walk (inr (inr (inr five))) good bad other = inr five
 
--- a text that is refused isn't accepted
-pub not_accepted : (files files' : Option Files) (words : List (List ℕ)) (file text : List ℕ) (items : List Item) (ending : Ending) (out out' err err' : Option (List ℕ))
-    → StaysSame files files' → StaysTold files files' file → AreWords words file → HasText files file text → Walk text items ending → ending ≢ Accepted
-    → (f : List ℕ) × AreWords words f × Ends files' f Accepted out out' err err' → ⊥
-unfolding Ends IsReported
-not_accepted files files' words file text items ending out out' err err' same told are has walk wrong (f, are', (other, is, (items', walk', grew), line)) =
-    let named : f ≡ file = cc (are, are') in
-    let one : text ≡ other = one_text files files' file text other same told has (subst (λ (z : List ℕ). IsTextOf files' z other) named is) in
-    let both = one_ending other items items' ending Accepted (subst (λ (z : List ℕ). Walk z items ending) one walk) walk' in
-    wrong both.1
-
-pub refuses_wrong : (status : ℕ) (files files' : Option Files) (words : List (List ℕ)) (file text : List ℕ) (items : List Item) (ending : Ending) (out out' err err' : Option (List ℕ))
-    → StaysSame files files' → ((g : List ℕ) → AreWords words g → StaysTold files files' g) → AreWords words file → HasText files file text → Walk text items ending → ending ≢ Accepted
+pub refuses_wrong : (status : ℕ) (files now : Option Files) (words names : List (List ℕ)) (held : List File) (items found : List Item) (end : End Refusal) (out out' err err' : Option (List ℕ))
+    → StaysSame files now → ((ns : List (List ℕ)) → AreWords words ns → KeepsTold files now ns) → AreWords words names → HoldsAll files names held → Checks (joined_text held) items end
+    → end ≢ accepted
     → (status ≡ 0) ⊎ (status ≡ 1) ⊎ (status ≡ 2) ⊎ (status ≡ 5)
-    → (status ≡ 0 → (f : List ℕ) × AreWords words f × Ends files' f Accepted out out' err err')
-    → (status ≡ 2 → (g : List ℕ) → AreWords words g → ⊥)
-    → (status ≡ 1) ⊎ (status ≡ 5)
-refuses_wrong status files files' words file text items ending out out' err err' same told are has walk wrong (inl good) accepted other =
-    absurd (not_accepted files files' words file text items ending out out' err err' same (told file are) are has walk wrong (accepted good))
-refuses_wrong status files files' words file text items ending out out' err err' same told are has walk wrong (inr (inl one)) accepted other = inl one
-refuses_wrong status files files' words file text items ending out out' err err' same told are has walk wrong (inr (inr (inl two))) accepted other = absurd (other two file are)
-refuses_wrong status files files' words file text items ending out out' err err' same told are has walk wrong (inr (inr (inr five))) accepted other = inr five
+    → (status ≡ 0 → (ns : List (List ℕ)) × AreWords words ns × CheckEnds now ns found accepted out out' err err')
+    → (status ≡ 1 → (ns : List (List ℕ)) × (last : End Refusal) × AreWords words ns × (last ≢ accepted) × CheckEnds now ns found last out out' err err')
+    → (status ≡ 2 → (ns : List (List ℕ)) → AreWords words ns → ⊥)
+    → ((status ≡ 1) × (found ≡ items)) ⊎ (status ≡ 5)
+refuses_wrong status files now words names held items found end out out' err err' same told are has walk wrong (inl zero') good bad other =
+    let g = good zero' in
+    absurd (wrong (sym (one_end files now words names g.0 held items found end accepted out out' err err' same told are has walk g.1 g.2).1))
+refuses_wrong status files now words names held items found end out out' err err' same told are has walk wrong (inr (inl one)) good bad other =
+    let b = bad one in
+    inl (one, (one_end files now words names b.0 held items found end b.1 out out' err err' same told are has walk b.2 b.4).0)
+refuses_wrong status files now words names held items found end out out' err err' same told are has walk wrong (inr (inr (inl two))) good bad other = absurd (other two names are)
+refuses_wrong status files now words names held items found end out out' err err' same told are has walk wrong (inr (inr (inr five))) good bad other = inr five
 
 -- other words get the usage line, where no write fails
 pub two_alone : (status : ℕ) → (status ≡ 2) ⊎ (status ≡ 4) → (status ≡ 0) ⊎ (status ≡ 1) ⊎ (status ≡ 2) ⊎ (status ≡ 5) → status ≡ 2

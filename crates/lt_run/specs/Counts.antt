@@ -1,5 +1,5 @@
 -- How many items there are, by kind.
-use Rattle.std.specs.Prelude.{◌≡◌, List, ◌∷◌, [], ◌++◌, length, count_by}
+use Rattle.std.specs.Prelude.{List, length, count_by}
 use Rattle.lt_definitions.specs.Items.{Item}
 use Rattle.lt_definitions.specs.Printing.{is_axiom, is_lemma}
 use Rattle.lt_run.specs.declared.counts.Counts.{Counts}
@@ -7,7 +7,3 @@ use Rattle.lt_run.specs.declared.counts.Counts.{Counts}
 -- how many of a list there are
 abbrev pub counts_of : List Item → Counts
 counts_of items = record { items = length items; axioms = count_by is_axiom items; lemmas = count_by is_lemma items }
-
--- with one more, where these were the counts of some, the others are the counts of all
-abbrev pub CountsOneMore : Item → Counts → Counts → Type 0
-CountsOneMore item before now = (items : List Item) → before ≡ counts_of items → now ≡ counts_of (items ++ item ∷ [])

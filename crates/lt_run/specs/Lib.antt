@@ -1,6 +1,7 @@
 -- The definitions that the contracts cite.
 pub mod Counts
-pub mod Cuts
-pub mod Walking
-pub mod Reports
 pub mod Words
+pub mod Joining
+pub mod Places
+pub mod Walked
+pub mod Endings

@@ -1,14 +1,19 @@
-//! The top call: reads the words, the file and its theory, and writes what was found.
+//! The top call: reads the words, the files and their theory, and writes what was found.
 #![tactic(auto)]
 
+mod check;
 mod counts;
-mod form;
+mod ended;
+mod files;
+mod places;
 mod report;
 mod run;
 mod sure;
+mod telling;
 mod walk;
 mod words;
 
+pub use ended::Ended;
 pub use run::lt;
 pub use sure::lt_sure;
 pub use words::Text;

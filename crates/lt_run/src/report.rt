@@ -1,27 +1,56 @@
 //! The lines on the second sink.
-ghost use Rattle.std.specs.Prelude.{◌≡◌, IfOk, string_bytes};
-ghost use Rattle.lt_texts.specs.Walks.{error_line};
-ghost use Rattle.lt_run.specs.Reports.{read_fault_line};
+ghost use Rattle.std.specs.Prelude.{◌≡◌, ◌++◌, List, codes, IfOk, string_bytes};
+ghost use Rattle.lt_definitions.specs.Theory.{Refusal};
+ghost use Rattle.lt_texts.specs.Files.{File};
+ghost use Rattle.lt_walks.specs.Walks.{End};
+ghost use Rattle.lt_walks.specs.Calls.{read_fault_line};
+ghost use Rattle.lt_walks.specs.Outputs.{check_line};
+ghost use Rattle.lt_plain.specs.Telling.{TellsEnd};
+ghost use Rattle.lt_run.specs.Joining.{IsJoinedOf};
+ghost use Rattle.lt_run.specs.Places.{AreNames, IsJoinedOfSome};
 
-use lt_texts::walks::Ending;
+use crate::files::Joined;
+use crate::places::place_text;
+use crate::words::Text;
+use lt_hol::Memory;
+use lt_plain::{Placed, print_refusal};
 use std::alloc::{AllocError, Global};
 
-/// The line that says how a walk ended about a file; it is empty where the walk accepted all.
-#[tactic(auto, unfolding(lt_texts::specs::Walks::error_line))]
-pub(crate) fn ending_text(alloc: Global, file: &str, ending: Ending) -> Result<String, AllocError>
-    ensures { IfOk result (λ text. string_bytes text ≡ error_line file.now ending) }
+/// The line on a refusal, with its place in its file.
+pub(crate) fn refusal_line(
+    alloc: Global,
+    names: &[Text],
+    joined: &Joined,
+    placed: &Placed,
+) -> Result<String, Memory>
+    requires { IsJoinedOfSome names.now joined.now }
+    ensures { (held : List File) (end : End Refusal) → AreNames names.now held
+        → IsJoinedOf held joined.now → TellsEnd end placed.now
+        → IfOk result (λ line. string_bytes line ≡ check_line held end) }
 {
-    match ending {
-        Ending::Accepted => Ok(String::new(alloc)),
-        Ending::TooLong => format!(in alloc; "{file}: TooLong\n"),
-        Ending::NotBuilt => format!(in alloc; "{file}: NotBuilt\n"),
-        Ending::AtItem(n) => format!(in alloc; "{file}: Item {n}\n"),
-    }
+    let place = place_text(alloc, names, joined, placed.at)?;
+    let refusal = print_refusal(alloc, &placed.refusal)?;
+    Ok(line_of(alloc, &place, &refusal)?)
+}
+
+/// A line of a place and of what stands there.
+fn line_of(alloc: Global, place: &str, refusal: &str) -> Result<String, AllocError>
+    ensures { IfOk result (λ line. string_bytes line
+        ≡ place.now ++ (codes ": " ++ (refusal.now ++ codes "\n"))) }
+{
+    format!(in alloc; "{place}: {refusal}\n")
+}
+
+/// The line on a text that is too long with a file.
+pub(crate) fn too_long_line(alloc: Global, file: &str) -> Result<String, AllocError>
+    ensures { IfOk result (λ line. string_bytes line ≡ file.now ++ codes ": TooLong\n") }
+{
+    format!(in alloc; "{file}: TooLong\n")
 }
 
 /// The line that says that a read failed.
 pub(crate) fn read_fault_text(alloc: Global, file: &str) -> Result<String, AllocError>
-    ensures { IfOk result (λ text. string_bytes text ≡ read_fault_line file.now) }
+    ensures { IfOk result (λ line. string_bytes line ≡ read_fault_line file.now) }
 {
     format!(in alloc; "read fault: {file}\n")
 }

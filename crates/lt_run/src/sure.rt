@@ -1,15 +1,19 @@
 //! The top call over a library and sinks that never fail.
 ghost use Rattle.std.specs.Prelude.{◌≡◌, ◌≢◌, ◌⊎◌, [], List, ℕ};
-ghost use Rattle.lt_texts.specs.declared.walks.Ending.{Ending};
 ghost use Rattle.lt_definitions.specs.Items.{Item};
-ghost use Rattle.lt_texts.specs.Walks.{Walk};
-ghost use Rattle.lt_io.specs.Files.{StaysSame, StaysTold};
+ghost use Rattle.lt_definitions.specs.Theory.{Refusal};
+ghost use Rattle.lt_texts.specs.Files.{File, joined_text};
+ghost use Rattle.lt_io.specs.Files.{StaysSame};
 ghost use Rattle.lt_io.specs.InMemory.{told_files, told_bytes};
 ghost use Rattle.lt_io.specs.Written.{Grew};
-ghost use Rattle.lt_run.specs.Reports.{Ends, Stops, HasText};
-ghost use Rattle.lt_run.specs.Words.{AreWords, usage};
+ghost use Rattle.lt_extend.specs.Theories.{items_of};
+ghost use Rattle.lt_walks.specs.Walks.{End, accepted};
+ghost use Rattle.lt_walks.specs.PlainWalks.{Checks};
+ghost use Rattle.lt_walks.specs.Calls.{CheckEnds, CheckStops, usage_line};
+ghost use Rattle.lt_run.specs.Words.{AreWords};
+ghost use Rattle.lt_run.specs.Joining.{HoldsAll, KeepsTold};
 
-use crate::{Text, lt};
+use crate::{Ended, Text, lt};
 use lt_io::{SureLibrary, SureSink};
 use std::alloc::Global;
 
@@ -20,35 +24,44 @@ pub fn lt_sure(
     lib: &mut SureLibrary,
     out: &mut SureSink,
     err: &mut SureSink,
-) -> u8
-    ensures status { (result ≡ 0) ⊎ (result ≡ 1) ⊎ (result ≡ 2) ⊎ (result ≡ 5) }
-    ensures accepted { result ≡ 0 → (file : List ℕ) × AreWords words.now file
-        × Ends (told_files lib.new) file Ending.Accepted (told_bytes out.old) (told_bytes out.new)
-        (told_bytes err.old) (told_bytes err.new) }
-    ensures refused { result ≡ 1 → (file : List ℕ) × (ending : Ending) × AreWords words.now file
-        × (ending ≢ Ending.Accepted)
-        × Ends (told_files lib.new) file ending (told_bytes out.old) (told_bytes out.new)
-        (told_bytes err.old) (told_bytes err.new) }
-    ensures words { result ≡ 2 → ((file : List ℕ) → AreWords words.now file → ⊥)
+) -> Ended
+    ensures status { (result.status ≡ 0) ⊎ (result.status ≡ 1) ⊎ (result.status ≡ 2)
+        ⊎ (result.status ≡ 5) }
+    ensures accepted { result.status ≡ 0 → (names : List (List ℕ)) × AreWords words.now names
+        × CheckEnds (told_files lib.new) names (items_of result.items) accepted
+        (told_bytes out.old) (told_bytes out.new) (told_bytes err.old) (told_bytes err.new) }
+    ensures refused { result.status ≡ 1 → (names : List (List ℕ)) × (end : End Refusal)
+        × AreWords words.now names × (end ≢ accepted)
+        × CheckEnds (told_files lib.new) names (items_of result.items) end
+        (told_bytes out.old) (told_bytes out.new) (told_bytes err.old) (told_bytes err.new) }
+    ensures words { result.status ≡ 2
+        → ((names : List (List ℕ)) → AreWords words.now names → ⊥) × (result.items ≡ [])
         × Grew (told_bytes out.old) (told_bytes out.new) []
-        × Grew (told_bytes err.old) (told_bytes err.new) usage }
-    ensures front { result ≡ 5 → Grew (told_bytes out.old) (told_bytes out.new) []
-        ⊎ ((file : List ℕ) × AreWords words.now file
-        × Stops (told_files lib.new) file (told_bytes out.old) (told_bytes out.new)) }
+        × Grew (told_bytes err.old) (told_bytes err.new) usage_line }
+    ensures front { result.status ≡ 5
+        → ((result.items ≡ []) × Grew (told_bytes out.old) (told_bytes out.new) [])
+        ⊎ ((names : List (List ℕ)) × AreWords words.now names
+        × CheckStops (told_files lib.new) names (items_of result.items)
+        (told_bytes out.old) (told_bytes out.new)) }
     ensures same { StaysSame (told_files lib.old) (told_files lib.new) }
-    ensures told { (file : List ℕ) → AreWords words.now file
-        → StaysTold (told_files lib.old) (told_files lib.new) file }
-    ensures untouched { ((file : List ℕ) → AreWords words.now file → ⊥) → lib.new ≡ lib.old }
+    ensures told { (names : List (List ℕ)) → AreWords words.now names
+        → KeepsTold (told_files lib.old) (told_files lib.new) names }
+    ensures untouched { ((names : List (List ℕ)) → AreWords words.now names → ⊥)
+        → lib.new ≡ lib.old }
     // Other words get the usage line.
-    ensures other { ((file : List ℕ) → AreWords words.now file → ⊥) → result ≡ 2 }
-    // A valid theory is accepted, unless memory runs out.
-    ensures complete { (file text : List ℕ) (items : List Item) → AreWords words.now file
-        → HasText (told_files lib.old) file text → Walk text items Ending.Accepted
-        → (result ≡ 0) ⊎ (result ≡ 5) }
-    // Any other text is refused, unless memory runs out.
-    ensures refusing { (file text : List ℕ) (items : List Item) (ending : Ending)
-        → AreWords words.now file → HasText (told_files lib.old) file text
-        → Walk text items ending → ending ≢ Ending.Accepted → (result ≡ 1) ⊎ (result ≡ 5) }
+    ensures other { ((names : List (List ℕ)) → AreWords words.now names → ⊥)
+        → result.status ≡ 2 }
+    // A valid theory is accepted, with its items, unless memory runs out.
+    ensures complete { (names : List (List ℕ)) (held : List File) (items : List Item)
+        → AreWords words.now names → HoldsAll (told_files lib.old) names held
+        → Checks (joined_text held) items accepted
+        → ((result.status ≡ 0) × (items_of result.items ≡ items)) ⊎ (result.status ≡ 5) }
+    // Any other text is refused, with the items before the refusal, unless memory runs out.
+    ensures refusing { (names : List (List ℕ)) (held : List File) (items : List Item)
+        (end : End Refusal) → AreWords words.now names
+        → HoldsAll (told_files lib.old) names held → Checks (joined_text held) items end
+        → end ≢ accepted
+        → ((result.status ≡ 1) × (items_of result.items ≡ items)) ⊎ (result.status ≡ 5) }
 {
     lt(alloc, words, lib, out, err)
 }

@@ -1,130 +1,108 @@
-//! The walk through a text: its items are checked and reported one after another.
-ghost use Rattle.std.specs.Prelude.{◌≡◌, ◌⊎◌, ◌≤◌, [], length, IfOk, IfErr, OnOk, OnErr, IsSome, None, true, encode_utf8_all};
-ghost use Rattle.std.specs.Bool.{MatchBool};
-ghost use Rattle.lt_definitions.specs.Items.{Context, empty, with_item};
-ghost use Rattle.lt_definitions.specs.Theory.{refusal};
-ghost use Rattle.lt_definitions.specs.Printing.{summary_line};
-ghost use Rattle.lt_texts.specs.Walks.{plain_limit};
+//! The walk through a text: its items are added and reported one after another.
+ghost use Rattle.std.specs.Prelude.{◌≡◌, ◌∷◌, ◌++◌, [], List, OnOk, OnErr, encode_utf8_all, map};
+ghost use Rattle.lt_definitions.specs.Printing.{summary_line, count_line};
+ghost use Rattle.lt_hol.specs.declared.item.Item.{Item as Stated};
 ghost use Rattle.lt_hol.specs.Items.{item_of};
 ghost use Rattle.lt_io.specs.Written.{Grew, GrewByFront};
-ghost use Rattle.lt_syntax.specs.ItemText.{line_of_counts};
-ghost use Rattle.lt_theory.specs.Small.{is_small};
-ghost use Rattle.lt_theory.specs.Standing.{StandsFor};
-ghost use Rattle.lt_run.specs.Cuts.{CutByCause};
-ghost use Rattle.lt_run.specs.Reports.{IsReported, IsCutShort};
-ghost use Rattle.lt_run.specs.Walking.{IsOfForm};
+ghost use Rattle.lt_extend.specs.Theories.{items_of, IsInStep};
+ghost use Rattle.lt_run.specs.Walked.{CutByCause, IsNoRefusal, IsStop, IsWalked};
 
-use crate::counts::Counts;
-use crate::form::{is_of_form, open_text, take_item};
+use crate::counts::count;
+use lt_extend::Theory;
 use lt_hol::{Item, Memory};
 use lt_io::{Sink, write_all};
-use lt_syntax::{count_line, summary_line};
-use lt_texts::walks::Ending;
-use lt_theory::{Fault, Theory};
+use lt_plain::{Placed, Refusal, next_item, open_plain, summary_line};
+use lt_store::TermStore;
+use lt_syntax::count_line;
 use std::alloc::Global;
 
-/// What kept a walk from its end.
-#[derive(Clone, Copy, Debug, Drop)]
-pub(crate) enum Cut {
-    /// A write failed.
+/// What kept a walk from accepting all: something is refused, a write failed, or memory ran out.
+#[derive(Debug, Drop)]
+pub(crate) enum Stop {
+    Refused(Placed),
     Fault,
-    /// Memory ran out.
     Memory,
 }
 
-impl From<Memory> for Cut {
+impl From<Memory> for Stop {
     ghost use Rattle.std.specs.Prelude.{◌≡◌};
-    ghost use Rattle.lt_run.specs.declared.walk.Cut.TheVariants.{Memory as OutOfMemory};
+    ghost use Rattle.lt_run.specs.declared.walk.Stop.TheVariants.{Memory as OutOfMemory};
 
     ghost from_gives = { λ _ e. e ≡ OutOfMemory };
 
-    fn from(_memory: Memory) -> Cut {
-        Cut::Memory
+    fn from(_memory: Memory) -> Stop {
+        Stop::Memory
     }
 }
 
-/// Walks through a text. Nothing is written of a text that isn't of the form, and of each accepted item
-/// its summary line, at once.
-pub(crate) fn walk_text<O: Sink>(alloc: Global, text: &[u8], out: &mut O) -> Result<Ending, Cut>
-    requires { length text.now ≤ plain_limit }
-    ensures ended { IfOk result (λ ending.
-        IsReported text.now ending (O.written out.old) (O.written out.new)) }
-    ensures cut { IfErr result (λ _. Grew (O.written out.old) (O.written out.new) []
-        ⊎ IsCutShort text.now (O.written out.old) (O.written out.new)) }
-    ensures cause { CutByCause (O.faults out.old) (O.faults out.new) result }
-{
-    if !is_of_form(alloc, text)? {
-        return Ok(Ending::NotBuilt);
-    }
-    let theory = Theory::new(alloc)?;
-    walk_all(alloc, text, theory, out)
-}
-
-/// Walks through a text that is of the form, over a theory that has no item yet and then goes.
-fn walk_all<O: Sink>(alloc: Global, text: &[u8], theory: Theory, out: &mut O) -> Result<Ending, Cut>
-    requires short { length text.now ≤ plain_limit }
-    requires form { IsOfForm text.now }
-    requires stands { StandsFor empty theory }
-    ensures ended { IfOk result (λ ending.
-        IsReported text.now ending (O.written out.old) (O.written out.new)) }
-    ensures cut { IfErr result (λ _. IsCutShort text.now (O.written out.old) (O.written out.new)) }
-    ensures cause { CutByCause (O.faults out.old) (O.faults out.new) result }
-{
-    let mut theory = theory;
-    walk_items(alloc, text, &mut theory, out)
-}
-
-/// Walks through a text that is of the form, with a theory that has no item yet.
-fn walk_items<O: Sink>(
+/// Walks through a text with a theory without items. Each accepted item is added, and its summary
+/// line is written at once; where all were accepted the line of counts is written too.
+pub(crate) fn walk_text<S: TermStore, O: Sink>(
     alloc: Global,
     text: &[u8],
-    theory: &mut Theory,
+    th: &mut Theory<S>,
     out: &mut O,
-) -> Result<Ending, Cut>
-    requires short { length text.now ≤ plain_limit }
-    requires form { IsOfForm text.now }
-    requires stands { StandsFor empty theory.old }
-    ensures ended { IfOk result (λ ending.
-        IsReported text.now ending (O.written out.old) (O.written out.new)) }
-    ensures cut { IfErr result (λ _. IsCutShort text.now (O.written out.old) (O.written out.new)) }
+) -> Result<(), Stop>
+    requires in_step { IsInStep th.old }
+    requires empty { th.old.items ≡ [] }
+    ensures walked { IsWalked text.now (items_of th.new.items) (O.written out.old)
+        (O.written out.new) result }
     ensures cause { CutByCause (O.faults out.old) (O.faults out.new) result }
 {
-    let mut reader = open_text(alloc, text)?;
-    let mut counts = Counts::none();
+    let mut script = match open_plain(alloc, text) {
+        Ok(script) => script,
+        Err(placed) => return Err(stop_of(placed)),
+    };
     'items: loop {
-        let Some((item, rest)) = take_item(alloc, reader)? else {
-            return finish(alloc, counts, out);
-        };
-        if !accepts(alloc, theory, &item)? {
-            return Ok(Ending::AtItem(counts.items + 1));
+        match next_item(alloc, &mut script, th) {
+            Ok(true) => {}
+            Ok(false) => return finish(alloc, th.items().as_slice(), out),
+            Err(placed) => return Err(stop_of(placed)),
         }
-        report_item(alloc, &item, out)?;
-        counts = counts.with(&item);
-        drop(item);
-        reader = rest;
+        match report_last(alloc, th.items().as_slice(), out) {
+            Ok(()) => {}
+            Err(stop) => return Err(stop),
+        }
     }
 }
 
-/// Adds an item to a theory where it is valid over the items before it, and says whether it is.
-fn accepts(alloc: Global, theory: &mut Theory, item: &Item) -> Result<bool, Memory>
-    requires { is_small (item_of item.now) ≡ true }
-    ensures { (ctx : Context) → StandsFor ctx theory.old → IfOk result (λ valid. MatchBool valid
-        ((refusal ctx (item_of item.now) ≡ None) × StandsFor (with_item ctx (item_of item.now)) theory.new)
-        (IsSome (refusal ctx (item_of item.now)))) }
+/// What a refusal with its place is to a walk.
+fn stop_of(placed: Placed) -> Stop
+    ensures { IsStop placed result }
 {
-    match theory.add_item(alloc, item) {
-        Ok(()) => Ok(true),
-        Err(Fault::Refused) => Ok(false),
-        Err(Fault::Memory) => Err(Memory),
+    match placed.refusal {
+        Refusal::Memory => Stop::Memory,
+        refusal => Stop::Refused(Placed {
+            refusal,
+            at: placed.at,
+        }),
+    }
+}
+
+/// Writes the summary line of the last item.
+fn report_last<O: Sink>(alloc: Global, items: &[Item], out: &mut O) -> Result<(), Stop>
+    ensures all { OnOk result ((before : List Stated) (item : Stated)
+        → items.now ≡ before ++ item ∷ [] → Grew (O.written out.old) (O.written out.new)
+        (encode_utf8_all (summary_line (item_of item)))) }
+    ensures front { OnErr result ((before : List Stated) (item : Stated)
+        → items.now ≡ before ++ item ∷ [] → GrewByFront (O.written out.old) (O.written out.new)
+        (encode_utf8_all (summary_line (item_of item)))) }
+    ensures written { IsNoRefusal result }
+    ensures cause { CutByCause (O.faults out.old) (O.faults out.new) result }
+{
+    match items.last() {
+        Some(item) => report_item(alloc, item, out),
+        None => Ok(()),
     }
 }
 
 /// Writes an item's summary line.
-fn report_item<O: Sink>(alloc: Global, item: &Item, out: &mut O) -> Result<(), Cut>
+fn report_item<O: Sink>(alloc: Global, item: &Item, out: &mut O) -> Result<(), Stop>
     ensures all { OnOk result (Grew (O.written out.old) (O.written out.new)
         (encode_utf8_all (summary_line (item_of item.now)))) }
     ensures front { OnErr result (GrewByFront (O.written out.old) (O.written out.new)
         (encode_utf8_all (summary_line (item_of item.now)))) }
+    ensures written { IsNoRefusal result }
     ensures cause { CutByCause (O.faults out.old) (O.faults out.new) result }
 {
     let line = summary_line(alloc, item)?;
@@ -132,27 +110,28 @@ fn report_item<O: Sink>(alloc: Global, item: &Item, out: &mut O) -> Result<(), C
 }
 
 /// Writes the line of counts, which ends a summary.
-fn finish<O: Sink>(alloc: Global, counts: Counts, out: &mut O) -> Result<Ending, Cut>
-    ensures all { IfOk result (λ ending. (ending ≡ Ending.Accepted)
-        × Grew (O.written out.old) (O.written out.new)
-        (encode_utf8_all (line_of_counts counts.items counts.axioms counts.lemmas))) }
+fn finish<O: Sink>(alloc: Global, items: &[Item], out: &mut O) -> Result<(), Stop>
+    ensures all { OnOk result (Grew (O.written out.old) (O.written out.new)
+        (encode_utf8_all (count_line (map item_of items.now)))) }
     ensures front { OnErr result (GrewByFront (O.written out.old) (O.written out.new)
-        (encode_utf8_all (line_of_counts counts.items counts.axioms counts.lemmas))) }
+        (encode_utf8_all (count_line (map item_of items.now)))) }
+    ensures written { IsNoRefusal result }
     ensures cause { CutByCause (O.faults out.old) (O.faults out.new) result }
 {
+    let counts = count(items);
     let line = count_line(alloc, counts.items, counts.axioms, counts.lemmas)?;
-    write_piece(out, line.as_bytes())?;
-    Ok(Ending::Accepted)
+    write_piece(out, line.as_bytes())
 }
 
 /// Writes a piece whole, or a front of it.
-fn write_piece<O: Sink>(out: &mut O, piece: &[u8]) -> Result<(), Cut>
+fn write_piece<O: Sink>(out: &mut O, piece: &[u8]) -> Result<(), Stop>
     ensures all { OnOk result (Grew (O.written out.old) (O.written out.new) piece.now) }
     ensures front { OnErr result (GrewByFront (O.written out.old) (O.written out.new) piece.now) }
+    ensures written { IsNoRefusal result }
     ensures cause { CutByCause (O.faults out.old) (O.faults out.new) result }
 {
     match write_all(out, piece) {
         Ok(()) => Ok(()),
-        Err(_) => Err(Cut::Fault),
+        Err(_) => Err(Stop::Fault),
     }
 }

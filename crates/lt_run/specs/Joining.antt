@@ -1,0 +1,63 @@
+-- Files joined to one text.
+use Rattle.std.specs.Prelude.{◌≡◌, ℕ, ◌+◌, ◌<◌, ◌≤◌, List, [], ◌∷◌, ◌++◌, Option, Some, None, IfSome, IsSome, length, map, slice_get}
+use Rattle.lt_texts.specs.Files.{File, joined_text, first_past}
+use Rattle.lt_texts.specs.Walks.{plain_limit}
+use Rattle.lt_io.specs.Causes.{Rose}
+use Rattle.lt_io.specs.Files.{Files}
+use Rattle.lt_walks.specs.Calls.{HoldsBytes, AreNamed, AreRead}
+use Rattle.lt_run.specs.declared.files.Joined.{Joined}
+use Rattle.lt_run.specs.declared.files.Unjoined.{Unjoined}
+use Rattle.lt_run.specs.declared.files.Unjoined.TheVariants.{Fault, TooLong, Memory}
+
+-- the library has each of these names
+abbrev pub AreIn : Files → List (List ℕ) → Type 0
+AreIn held [] = Unit {0}
+AreIn held (name ∷ names) = IsSome (held name) × AreIn held names
+
+-- where the files were told and have all these names, they are told behind
+abbrev pub KeepsTold : Option Files → Option Files → List (List ℕ) → Type 0
+KeepsTold before now names = IfSome before (λ held. AreIn held names → IsSome now)
+
+-- the files are told, and have these names with these bytes
+abbrev pub HoldsAll : Option Files → List (List ℕ) → List File → Type 0
+HoldsAll files names held = (told : Files) × (files ≡ Some told) × AreNamed (Some told) names held
+
+-- The text is joined of these files, of which each has so many bytes.
+pub record IsJoinedOf (held : List File) (j : Joined) : Type 0 where
+  pub text : j.text.items ≡ joined_text held
+  pub lengths : j.lengths.items ≡ map (λ f. length f.bytes) held
+
+-- The text is joined of the named files, and is short enough.
+pub record AreJoined (files : Option Files) (names : List (List ℕ)) (j : Joined) : Type 0 where
+  pub held : List File
+  pub named : AreNamed files names held
+  pub joined : IsJoinedOf held j
+  pub short : length j.text.items ≤ plain_limit
+
+-- One more file is joined, and the text is short enough.
+pub record Joins (files : Option Files) (name : List ℕ) (before now : Joined) : Type 0 where
+  pub bytes : List ℕ
+  pub holds : HoldsBytes files (record { name = name; bytes = bytes })
+  pub text : now.text.items ≡ before.text.items ++ (bytes ++ 10 ∷ [])
+  pub lengths : now.lengths.items ≡ before.lengths.items ++ length bytes ∷ []
+  pub short : length now.text.items ≤ plain_limit
+
+-- With one more file the text is too long.
+pub record Passes (files : Option Files) (name : List ℕ) (before : Joined) : Type 0 where
+  pub bytes : List ℕ
+  pub holds : HoldsBytes files (record { name = name; bytes = bytes })
+  pub long : plain_limit < length before.text.items + (length bytes + 1)
+
+-- The text is too long with the file that has this number among the named ones.
+pub record IsPassed (files : Option Files) (names : List (List ℕ)) (n : ℕ) : Type 0 where
+  pub held : List File
+  pub read : AreRead files names held
+  pub long : plain_limit < length (joined_text held)
+  pub name : slice_get names n ≡ Some (first_past held plain_limit)
+
+-- What kept the files from being joined: a fault of the library, a text that is too long, or want of
+-- memory, which is free.
+abbrev pub FailsToJoin : Option Files → (before now : ℕ) → List (List ℕ) → Unjoined → Type 0
+FailsToJoin files before now names (Fault n) = (n < length names) × Rose before now
+FailsToJoin files before now names (TooLong n) = (n < length names) × IsPassed files names n
+FailsToJoin files before now names Memory = Unit {0}
