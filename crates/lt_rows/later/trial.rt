@@ -182,8 +182,8 @@ fn ran_to(alloc: Global, ended: &Ended, out: &[u8], err: &[u8]) -> Result<Ran, R
 fn written(alloc: Global, items: &Items) -> Result<Vec<u8>, RowFault> {
     let mut theory = Vec::new(alloc);
     theory.extend_from_slice(b"plain 1;\n")?;
-    for i in 0..items.len() {
-        let text = write_item(alloc, items.at(i))?;
+    for item in items.as_slice() {
+        let text = write_item(alloc, item)?;
         theory.extend_from_slice(text.as_bytes())?;
     }
     Ok(theory)
