@@ -13,7 +13,7 @@ const SMALL: &[u8] =
     b"plain 1;\nconst p : bool;\nlemma l : (imp p p) {\n  assume p;\n  impI p 1;\n};\n";
 
 /// How many items a plain text has.
-fn count_items(alloc: Global, text: &[u8]) -> core::result::Result<u64, ReadError> {
+fn count_items(alloc: Global, text: &[u8]) -> std::result::Result<u64, ReadError> {
     let mut script = Script::new(alloc, text);
     script.header(alloc, "plain", 1)?;
     let mut items: u64 = 0;
@@ -48,7 +48,7 @@ pub fn run(rt: &HostRuntime, words: &[String]) -> Result<()> {
 fn tell(
     rt: &impl Print,
     size: usize,
-    read: &core::result::Result<u64, ReadError>,
+    read: &std::result::Result<u64, ReadError>,
 ) -> io::Result<()> {
     match read {
         Ok(items) => println!(rt; "script: {size} bytes, {items} items"),
