@@ -1,20 +1,19 @@
 -- Sessions over quotients, forms and rules, of which the examples of refusals speak.
 -- Source: this project's own.
 use Rattle.std.specs.Prelude.{List, [], ◌∷◌, ◌++◌, codes, false}
-use Rattle.lt_definitions.specs.Samples.{nat, tyvar, con}
+use Rattle.lt_definitions.specs.Samples.{nat, tyvar, con, numbers}
 use Rattle.lt_definitions.specs.Types.{Chars, TypeTree, bool}
-use Rattle.lt_definitions.specs.Terms.{falsity}
+use Rattle.lt_definitions.specs.Terms.{equation}
 use Rattle.lt_definitions.specs.Items.{Item, type_item, const_item, axiom_item, empty, context_of}
 use Rattle.lt_definitions.specs.Typing.{Signature}
 use Rattle.lt_transport_definitions.specs.Notation.{WithType, ◌⇒◌, ◌~◌}
 use Rattle.lt_transport_definitions.specs.Relations.{Correspondence, Parametrised, Registry}
 use Rattle.lt_transport_definitions.specs.RelatorForm.{equality_statement, quotient_statement, composition_statement, relator_type, mapping_type}
 use Rattle.lt_transport_definitions.specs.Search.{equal}
-use Rattle.lt_transport_definitions.specs.Reduction.{as_printed}
 use Rattle.lt_transport_definitions.specs.LawTexts.{laws_of_lifting, laws_of_lift}
 use Rattle.lt_transport_definitions.specs.Sessions.{QuotientEntry, Session}
 use Rattle.lt_transport_definitions.specs.QuotientTerms.{four_at}
-use Rattle.lt_transport_definitions.specs.Commands.{relator_registered, Block, with_registration, session_behind}
+use Rattle.lt_transport_definitions.specs.Commands.{relator_registered, rule_registered, Block, with_registration, session_behind}
 use Rattle.lt_transport_definitions.specs.Rows.{Row, adds}
 use Rattle.lt_transport_definitions.specs.TransportRows.{adds_transport}
 use Rattle.lt_transport_definitions.specs.QuotientBlocks.{self_related, tail_block, tail_registrations}
@@ -62,11 +61,20 @@ over_few_laws = with_lifted_constant (with_laws lawless_boxes (laws_of_lifting +
 abbrev pub over_quotient_of_box : Session
 over_quotient_of_box = with_lifted_constant over_correspondence
 
--- and with a transport of falsity, which has no rule
+-- the numbers, and that q is true
+abbrev pub true_items : List Item
+true_items = numbers
+    ++ const_item (codes "q") bool ∷ axiom_item (codes "bq") (equation bool (con "true") (con "q"))
+    ∷ []
+
+-- the session over these, with that rule
+abbrev pub over_true : Session
+over_true = with_registration (session_over true_items) (rule_registered (codes "bq"))
+
+-- and with the transport of q, whose image is true
 abbrev pub over_transport : Session
-over_transport =
-    session_behind over_quotient_of_box
-    (block_in (adds_transport (codes "same") equal falsity (as_printed [] falsity)))
+over_transport = session_behind over_true
+    (block_in (adds_transport (codes "same") equal (con "q") (con "true")))
 
 -- the quotient of arr
 abbrev pub arr_entry : QuotientEntry

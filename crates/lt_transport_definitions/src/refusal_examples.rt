@@ -164,7 +164,7 @@ pub fn other_lifts()
     ensures equation { ComesOf over_quotient_of_box (rep_eq_command (codes "lifted"))
         (Err (because "NoRepEquation" (codes "(box 'a)" ∷ []))) }
     ensures image { ComesOf over_transport (carry_command (codes "n") (codes "same") (codes "Pz"))
-        (Err (because "ImageDiffers" (codes "(all[bool] (\\x0 bool %x0))" ∷ []))) }
+        (Err (because "ImageDiffers" (codes "true" ∷ []))) }
     ensures open { ComesOf over_boxes (equiv_command (codes "n") x) (Err (as_item open_term)) }
 {}
 

@@ -13,7 +13,7 @@ use Rattle.lt_transport_definitions.specs.RuleForm.{TransferRule}
 use Rattle.lt_transport_definitions.specs.Candidates.{match_of, candidates, IsChoice}
 use Rattle.lt_transport_definitions.specs.Correspondence.{ChosenStatement, chosen_name, chosen_application, chosen_abstraction, chosen_rule, chosen_equality, not_chosen, Assignment, statement_of, numbers_of, AreCandidates, AreValues, IsAssignment, raw_side, rule_relations, binder_relations}
 use Rattle.lt_transport_definitions.specs.Search.{Solution, IsLeast, IsAnswer, AreFilled, AreChoices, IsVisit, AreDifferent, HasVisits, HasImage}
-use Rattle.lt_transport_definitions.specs.Reduction.{opens, LeadsTo, PassesLimit, IsNormLimit}
+use Rattle.lt_transport_definitions.specs.Reduction.{opens, LeadsTo, PassesLimit, IsNormLimit, IsNormalForm}
 use Rattle.lt_transport_laws.proofs.Rows.{IsIn}
 use Rattle.lt_transport_laws.proofs.Exclusive.{in_at}
 use Rattle.lt_transport_laws.proofs.Unique.{answers_one}
@@ -193,3 +193,11 @@ passes-limit = (
   grows,
   redex-within,
 )
+
+-- a constant is normal
+pub normal-true : IsNormalForm (con "true") (con "true")
+normal-true = (0, alpha_is_reflexive (con "true"), refl, within, λ j u l w h. omega arith)
+  where
+    within : PassesLimit 0 (con "true") → ⊥
+    within (inl l) = let e : term_nodes (con "true") ≡ 1 = refl in omega arith
+    within (inr e) = let n = e.0 in omega arith

@@ -8,13 +8,12 @@ use Rattle.lt_definitions.specs.Types.{Chars, same_name, found, TypeTree, type_v
 use Rattle.lt_definitions.specs.Terms.{TermTree, free_variable, bound_name, constant, application, abstraction}
 use Rattle.lt_definitions.specs.Typing.{Signature, Fault, type_fault, types_fault, typed, HasType}
 use Rattle.lt_definitions.specs.Rules.{type_of}
-use Rattle.lt_definitions.specs.Items.{Item, type_item, const_item, axiom_item, def_item, typedef_item, lemma_item, Context, empty, new_type, raw_type, with_typedef, with_item, context_of}
+use Rattle.lt_definitions.specs.Items.{Item, type_item, const_item, axiom_item, def_item, typedef_item, lemma_item, Context, new_type, raw_type, with_typedef, with_item}
 use Rattle.lt_definitions.specs.Theory.{refusal, AreValid}
 use Rattle.lt_definitions.specs.Extensions.{IsTypedef}
 use Rattle.lt_definitions.proofs.SameNames.{true-false, bool_cases, name-true, type-true}
 use Rattle.lt_definitions.proofs.TypingLemmas.{both-none}
 use Rattle.lt_nameless.proofs.BindingLemmas.{if-true, if-false}
-use Rattle.lt_nameless.proofs.BooleanSteps.{typed-alpha}
 use Rattle.lt_nameless.proofs.LaterItems.{keeps-items}
 use Rattle.lt_nameless.proofs.MoreDeclarations.{type-more}
 use Rattle.lt_nameless.proofs.Refusals.{accepted_is_valid}
@@ -28,19 +27,17 @@ use Rattle.lt_transport_definitions.specs.RuleForm.{TransferRule}
 use Rattle.lt_transport_definitions.specs.Sessions.{Typedef, QuotientEntry, Session, typedef_of}
 use Rattle.lt_texts.specs.Commands.{Command, item_command, law_command, corr_command, relator_command, property_command, domain_command, rule_command, lifting_command, lifting_typedef_command, quotient_type_command, lift_command, parametric_command, param_rule_command, equiv_command, implies_command, carry_command, abs_eq_command, rep_eq_command}
 use Rattle.lt_transport_definitions.specs.Commands.{Addition, this_item, a_lemma, Registration, law_registered, corr_registered, relator_registered, form_registered, property_registered, domain_registered, rule_registered, quotient_registered, lifted_registered, transport_registered, Block, item_of, with_typedef_of, with_addition, with_registration, session_behind}
-use Rattle.lt_transport_definitions.specs.AlphaItems.{IsAlphaEqualItem}
 use Rattle.lt_transport_definitions.specs.Parts.{tests_before}
 use Rattle.lt_transport_definitions.specs.QuotientBlocks.{QuotientTheorem, four_between, as_quotient, is_in_order, quotient_test}
 use Rattle.lt_transport_definitions.specs.QuotientRows.{raw_of, typedef_entry, adds_typedef_quotient, is_relation_on_one, class_entry, adds_class_quotient}
 use Rattle.lt_transport_definitions.specs.Rows.{Row, adds, with_its_type}
 use Rattle.lt_transport_definitions.specs.Table.{row_of}
-use Rattle.lt_transport_definitions.specs.Blocks.{ComesOfRow}
+use Rattle.lt_transport_definitions.specs.Blocks.{IsItemOf, AreItemsOf, ComesOfRow}
 use Rattle.lt_transport_laws.specs.QuotientStatements.{IsInOrder, AreInOrder}
-use Rattle.lt_transport_laws.specs.OrderStatements.{AreAlphaEqualContexts, IsTypedefInOrder, AreTypedefsInOrder, IsOrderedSession, NewSessionsAreOrdered, SessionsStayOrdered, SessionsHaveQuotients}
-use Rattle.lt_transport_laws.proofs.AlphaItemLemmas.{same-statements, valid-alpha, IsAlikeItemOf, AreAlikeItemsOf, items-alike}
+use Rattle.lt_transport_laws.specs.OrderStatements.{IsTypedefInOrder, AreTypedefsInOrder, IsOrderedSession, NewSessionsAreOrdered, SessionsStayOrdered, SessionsHaveQuotients}
 use Rattle.lt_transport_laws.proofs.InStep.{context-kept}
 use Rattle.lt_transport_laws.proofs.OrderLemmas.{Grows, grows-same, grows-refl, grows-trans, nil-behind, order-more, entries-more, typed-kept, typedefs-more, new-in-order}
-use Rattle.lt_transport_laws.proofs.PlainWalks.{one-adds}
+use Rattle.lt_transport_laws.proofs.PlainWalks.{adds-same}
 use Rattle.lt_transport_laws.proofs.QuotientsExist.{quotients-exist}
 use Rattle.lt_transport_laws.proofs.RowFacts.{EachBlock, comes-block}
 use Rattle.lt_transport_laws.proofs.RowLemmas.{comes-unless}
@@ -70,23 +67,14 @@ grows-additions s (a ∷ additions) = grows-trans s.context.signature (with_addi
     (fold with_addition (with_addition s a) additions).context.signature (grows-item s.context (item_of a)) (grows-additions (with_addition s a) additions)
 
 -- what a valid typedef is over
-typedef-facts : (c d : Context) → AreAlphaEqualContexts c d → (n : Chars) (xs : List Chars) (p : TermTree) (l a r : Chars) (item : Item)
-    → IsAlphaEqualItem (typedef_item n xs p l a r) item → refusal d item ≡ None
+typedef-facts : (c : Context) (n : Chars) (xs : List Chars) (p : TermTree) (l a r : Chars) → refusal c (typedef_item n xs p l a r) ≡ None
     → (raw : TypeTree) × (typed c.signature [] p ≡ Ok (fun raw bool)) × (found n c.signature.types ≡ None)
     × ((with_item c (typedef_item n xs p l a r)).signature.types ≡ c.signature.types ++ (n, length xs) ∷ [])
-typedef-facts c d e n xs p l a r (type_item m k) h v = absurd (cc)
-typedef-facts c d e n xs p l a r (const_item m ty) h v = absurd (cc)
-typedef-facts c d e n xs p l a r (axiom_item m t) h v = absurd (cc)
-typedef-facts c d e n xs p l a r (def_item m ty t) h v = absurd (cc)
-typedef-facts c d e n xs p l a r (lemma_item m t lines) h v = absurd (cc)
-typedef-facts c d e n xs p l a r (typedef_item m ys q k b s) h v =
-    let x : IsTypedef d m ys q k b s = (accepted_is_valid d (typedef_item m ys q k b s)).0 v in
-    let one : typed d.signature [] q ≡ Ok (fun x.raw bool) = has-typed d.signature [] q (fun x.raw bool) x.predicate in
-    let two : typed c.signature [] q ≡ typed d.signature [] q = ap (λ (sig : Signature). typed sig [] q) e.0 in
-    let pred : typed c.signature [] p ≡ Ok (fun x.raw bool) = typed-alpha c.signature p q h.2 ∙ two ∙ one in
-    let new : found m c.signature.types ≡ None = ap (λ (sig : Signature). found m sig.types) e.0 ∙ x.new_type in
+typedef-facts c n xs p l a r v =
+    let x : IsTypedef c n xs p l a r = (accepted_is_valid c (typedef_item n xs p l a r)).0 v in
+    let pred : typed c.signature [] p ≡ Ok (fun x.raw bool) = has-typed c.signature [] p (fun x.raw bool) x.predicate in
     let some : raw_type (typed c.signature [] p) ≡ Some x.raw = ap raw_type pred in
-    (x.raw, pred, ap (λ z. found z c.signature.types) h.0 ∙ new, ap (λ o. (with_typedef n xs p a r o c).signature.types) some)
+    (x.raw, pred, x.new_type, ap (λ o. (with_typedef n xs p a r o c).signature.types) some)
 
 -- a term's type has no fault
 type-sound : (d : Context) → IsSound d → (t : TermTree) (ty : TypeTree) → typed d.signature [] t ≡ Ok ty → type_fault d.signature ty ≡ None
@@ -99,20 +87,18 @@ typedefs-one : (sig : Signature) (ts : List Typedef) (t : Typedef) → AreTypede
 typedefs-one sig [] t h k = (k, tt)
 typedefs-one sig (u ∷ ts) t h k = (h.0, typedefs-one sig ts t h.1 k)
 
-item-ordered : (s : Session) (d : Context) (i item : Item) → AreAlphaEqualContexts s.context d → IsAlphaEqualItem i item → refusal d item ≡ None → IsSound d
+item-ordered : (s : Session) (i : Item) → refusal s.context i ≡ None → IsSound s.context
     → AreTypedefsInOrder s.context.signature s.typedefs → AreTypedefsInOrder (with_item s.context i).signature (with_typedef_of i s.typedefs)
-item-ordered s d (type_item n k) item e h v w o = typedefs-more s.context.signature _ s.typedefs (grows-item s.context (type_item n k)) o
-item-ordered s d (const_item n ty) item e h v w o = typedefs-more s.context.signature _ s.typedefs (grows-item s.context (const_item n ty)) o
-item-ordered s d (axiom_item l t) item e h v w o = typedefs-more s.context.signature _ s.typedefs (grows-item s.context (axiom_item l t)) o
-item-ordered s d (def_item n ty t) item e h v w o = typedefs-more s.context.signature _ s.typedefs (grows-item s.context (def_item n ty t)) o
-item-ordered s d (lemma_item l t lines) item e h v w o = typedefs-more s.context.signature _ s.typedefs (grows-item s.context (lemma_item l t lines)) o
-item-ordered s d (typedef_item n xs p l a r) item e h v w o =
+item-ordered s (type_item n k) v w o = typedefs-more s.context.signature _ s.typedefs (grows-item s.context (type_item n k)) o
+item-ordered s (const_item n ty) v w o = typedefs-more s.context.signature _ s.typedefs (grows-item s.context (const_item n ty)) o
+item-ordered s (axiom_item l t) v w o = typedefs-more s.context.signature _ s.typedefs (grows-item s.context (axiom_item l t)) o
+item-ordered s (def_item n ty t) v w o = typedefs-more s.context.signature _ s.typedefs (grows-item s.context (def_item n ty t)) o
+item-ordered s (lemma_item l t lines) v w o = typedefs-more s.context.signature _ s.typedefs (grows-item s.context (lemma_item l t lines)) o
+item-ordered s (typedef_item n xs p l a r) v w o =
     let g = grows-item s.context (typedef_item n xs p l a r) in
-    let f = typedef-facts s.context d e n xs p l a r item h v in
+    let f = typedef-facts s.context n xs p l a r v in
     let more : Signature = (with_item s.context (typedef_item n xs p l a r)).signature in
-    let two : typed d.signature [] p ≡ Ok (fun f.0 bool) = ap (λ (sig : Signature). typed sig [] p) (sym e.0) ∙ f.1 in
-    let k : type_fault d.signature f.0 ≡ None = (sound-fun d.signature f.0 bool (type-sound d w p (fun f.0 bool) two)).0 in
-    let sound : type_fault s.context.signature f.0 ≡ None = ap (λ (sig : Signature). type_fault sig f.0) e.0 ∙ k in
+    let sound : type_fault s.context.signature f.0 ≡ None = (sound-fun s.context.signature f.0 bool (type-sound s.context w p (fun f.0 bool) f.1)).0 in
     typedefs-one more s.typedefs (record { name = n; params = xs; predicate = p; abs = a; rep = r })
     (typedefs-more s.context.signature more s.typedefs g o)
     (record {
@@ -122,20 +108,21 @@ item-ordered s d (typedef_item n xs p l a r) item e h v w o =
       order = new-in-order s.context.signature more n xs (length xs) f.2 f.0 sound f.3;
     })
 
-addition-ordered : (s : Session) (d : Context) (a : Addition) (item : Item) → AreAlphaEqualContexts s.context d → IsAlikeItemOf a item → refusal d item ≡ None → IsSound d
+addition-ordered : (s : Session) (a : Addition) (item : Item) → IsItemOf a item → refusal s.context item ≡ None → IsSound s.context
     → AreTypedefsInOrder s.context.signature s.typedefs → AreTypedefsInOrder (with_addition s a).context.signature (with_addition s a).typedefs
-addition-ordered s d (this_item i) item e h v w o = item-ordered s d i item e h v w o
-addition-ordered s d (a_lemma l t) item e h v w o = typedefs-more s.context.signature _ s.typedefs (grows-item s.context (lemma_item l t [])) o
+addition-ordered s (this_item i) item h v w o = item-ordered s i (subst (λ (j : Item). refusal s.context j ≡ None) h v) w o
+addition-ordered s (a_lemma l t) item h v w o = typedefs-more s.context.signature _ s.typedefs (grows-item s.context (lemma_item l t [])) o
 
-additions-ordered : (s : Session) (d : Context) (additions : List Addition) (items : List Item) → AreAlphaEqualContexts s.context d → AreAlikeItemsOf additions items
-    → AreValid d items → IsSound d → AreTypedefsInOrder s.context.signature s.typedefs
+additions-ordered : (s : Session) (additions : List Addition) (items : List Item) → AreItemsOf additions items
+    → AreValid s.context items → IsSound s.context → AreTypedefsInOrder s.context.signature s.typedefs
     → AreTypedefsInOrder (fold with_addition s additions).context.signature (fold with_addition s additions).typedefs
-additions-ordered s d [] [] e h v w o = o
-additions-ordered s d [] (item ∷ items) e h v w o = absurd h
-additions-ordered s d (a ∷ additions) [] e h v w o = absurd h
-additions-ordered s d (a ∷ additions) (item ∷ items) e h v w o =
-    additions-ordered (with_addition s a) (with_item d item) additions items (one-adds s.context d e a item h.0) h.1 v.1
-    (sound-items d (item ∷ []) w (v.0, tt)) (addition-ordered s d a item e h.0 v.0 w o)
+additions-ordered s [] [] h v w o = o
+additions-ordered s [] (item ∷ items) h v w o = absurd h
+additions-ordered s (a ∷ additions) [] h v w o = absurd h
+additions-ordered s (a ∷ additions) (item ∷ items) h v w o =
+    let e : with_item s.context item ≡ with_item s.context (item_of a) = sym (adds-same s.context a item h.0) in
+    additions-ordered (with_addition s a) additions items h.1 (subst (λ (c : Context). AreValid c items) e v.1)
+    (subst IsSound e (sound-items s.context (item ∷ []) w (v.0, tt))) (addition-ordered s a item h.0 v.0 w o)
 
 -- what registrations leave
 
@@ -299,20 +286,18 @@ related-typed (Err f) s h = absurd (bool-not s h)
     bool-not : (s : TypeTree) → bool ≡ fun s (fun s bool) → ⊥
     bool-not s e = cc
 
-raw-sound : (s : Session) (d : Context) → AreAlphaEqualContexts s.context d → IsSound d → (r : TermTree)
-    → is_relation_on_one (type_of s.context.signature r) ≡ true
+raw-sound : (s : Session) → IsSound s.context → (r : TermTree) → is_relation_on_one (type_of s.context.signature r) ≡ true
     → type_fault s.context.signature (raw_of (with_its_type s.context.signature r)) ≡ None
-raw-sound s d e w r h =
+raw-sound s w r h =
     let k = relation-is (type_of s.context.signature r) (relation_sides (type_of s.context.signature r)) refl h in
     let ok = related-typed (typed s.context.signature [] r) k.0 k.1 in
-    let two : typed d.signature [] r ≡ Ok (fun k.0 (fun k.0 bool)) = ap (λ (sig : Signature). typed sig [] r) (sym e.0) ∙ ok in
-    let f : type_fault d.signature k.0 ≡ None = (sound-fun d.signature k.0 (fun k.0 bool) (type-sound d w r (fun k.0 (fun k.0 bool)) two)).0 in
     let raw : raw_of (with_its_type s.context.signature r) ≡ k.0 = ap domain_type k.1 in
-    ap (type_fault s.context.signature) raw ∙ (ap (λ (sig : Signature). type_fault sig k.0) e.0 ∙ f)
+    ap (type_fault s.context.signature) raw
+    ∙ (sound-fun s.context.signature k.0 (fun k.0 bool) (type-sound s.context w r (fun k.0 (fun k.0 bool)) ok)).0
 
 -- the new type of a quotient type comes behind its raw type
 class-order-at : (s : Session) (n : Chars) (p : TermTree) (q : Chars) (params : List Chars) (CP : TermTree) (l a r : Chars) (rest : List Addition) (items : List Item)
-    → AreAlikeItemsOf (a_lemma n p ∷ this_item (typedef_item q params CP l a r) ∷ rest) items → AreValid s.context items
+    → AreItemsOf (a_lemma n p ∷ this_item (typedef_item q params CP l a r) ∷ rest) items → AreValid s.context items
     → (raw : TypeTree) → type_fault s.context.signature raw ≡ None
     → is_in_order (fold with_addition s (a_lemma n p ∷ this_item (typedef_item q params CP l a r) ∷ rest)).context.signature raw (new_type q params) ≡ true
 class-order-at s n p q params CP l a r rest [] h v raw f = absurd h
@@ -320,18 +305,19 @@ class-order-at s n p q params CP l a r rest (i ∷ []) h v raw f = absurd h.1
 class-order-at s n p q params CP l a r rest (i ∷ j ∷ items) h v raw f =
     let one : Session = with_addition s (a_lemma n p) in
     let two : Session = with_addition one (this_item (typedef_item q params CP l a r)) in
-    let e = one-adds s.context s.context (refl, same-statements s.context.statements) (a_lemma n p) i h.0 in
-    let t = typedef-facts one.context (with_item s.context i) e q params CP l a r j h.1.0 v.1.0 in
+    let e : with_item s.context i ≡ one.context = sym (adds-same s.context (a_lemma n p) i h.0) in
+    let k : refusal one.context j ≡ None = subst (λ (c : Context). refusal c j ≡ None) e v.1.0 in
+    let t = typedef-facts one.context q params CP l a r (subst (λ (m : Item). refusal one.context m ≡ None) h.1.0 k) in
     order-more two.context.signature (fold with_addition two rest).context.signature raw (new_type q params) (grows-additions two rest)
     (new-in-order s.context.signature two.context.signature q params (length params) t.2 raw f t.3)
 
 class-order : (s : Session) (additions : List Addition) (n : Chars) (p : TermTree) (q : Chars) (params : List Chars) (CP : TermTree) (l a r : Chars) (rest : List Addition)
-    → additions ≡ a_lemma n p ∷ this_item (typedef_item q params CP l a r) ∷ rest → (items : List Item) → AreAlikeItemsOf additions items → AreValid s.context items
+    → additions ≡ a_lemma n p ∷ this_item (typedef_item q params CP l a r) ∷ rest → (items : List Item) → AreItemsOf additions items → AreValid s.context items
     → (raw : TypeTree) → type_fault s.context.signature raw ≡ None
     → is_in_order (fold with_addition s additions).context.signature raw (new_type q params) ≡ true
 class-order s additions n p q params CP l a r rest e items h v raw f =
     subst (λ (xs : List Addition). is_in_order (fold with_addition s xs).context.signature raw (new_type q params) ≡ true) (sym e)
-    (class-order-at s n p q params CP l a r rest items (subst (λ (xs : List Addition). AreAlikeItemsOf xs items) e h) v raw f)
+    (class-order-at s n p q params CP l a r rest items (subst (λ (xs : List Addition). AreItemsOf xs items) e h) v raw f)
 
 -- the additions with which a row ends
 abbrev additions_of : Row → List Addition
@@ -366,7 +352,7 @@ entry-more sig more e g h = (entries-more sig more (e ∷ []) g (h, tt)).0
 
 -- what is registered of a block whose items are valid
 abbrev RegistersInOrder : Session → Block → Type 0
-RegistersInOrder s b = (items : List Item) → AreAlikeItemsOf b.additions items → AreValid s.context items
+RegistersInOrder s b = (items : List Item) → AreItemsOf b.additions items → AreValid s.context items
     → AreOrderedRegistrations (fold with_addition s b.additions).context.signature b.registrations
 
 optional-rule : (sig : Signature) (l : Chars) (o : Option TransferRule) → AreOrderedRegistrations sig (option_to_list (option_map (λ rule. rule_registered l) o))
@@ -410,7 +396,7 @@ in-rows s h (lifting_typedef_command q) = λ n t e m items a w.
 in-rows s h (quotient_type_command q params r l) = λ t e n m o p u v w items a x.
     let R : WithType = with_its_type s.context.signature r in
     let additions : List Addition = additions_of (adds_class_quotient params (class_entry q params R)) in
-    let sound = raw-sound s (context_of empty h.theory.0) h.theory.2 (theory-context s h.theory) r
+    let sound = raw-sound s (theory-context s h.theory) r
     (test-holds (is_relation_on_one (type_of s.context.signature r)) "relation" o) in (
       tt,
       (
@@ -431,13 +417,12 @@ in-rows s h (carry_command n e l) = λ transport f t g m items a v. tt
 in-rows s h (abs_eq_command c) = λ e f n q items a v. tt
 in-rows s h (rep_eq_command c) = λ e f n q m items a v. tt
 
-behind-ordered : (s : Session) (b : Block) (items : List Item) → IsOrderedSession s → RegistersInOrder s b → AreAlikeItemsOf b.additions items → AreValid s.context items
+behind-ordered : (s : Session) (b : Block) (items : List Item) → IsOrderedSession s → RegistersInOrder s b → AreItemsOf b.additions items → AreValid s.context items
     → AreTypedefsInOrder (session_behind s b).context.signature (session_behind s b).typedefs
     × AreInOrder (session_behind s b).context.signature (session_behind s b).quotients
 behind-ordered s b items h k a v =
     let t : Session = fold with_addition s b.additions in
-    let d : Context = context_of empty h.theory.0 in
-    let typedefs = additions-ordered s d b.additions items h.theory.2 a (valid-alpha s.context d h.theory.2 items v) (theory-context s h.theory) h.typedefs in
+    let typedefs = additions-ordered s b.additions items a v (theory-context s h.theory) h.typedefs in
     let old = subst (AreInOrder t.context.signature) (sym (quotients-kept s b.additions))
     (entries-more s.context.signature t.context.signature s.quotients (grows-additions s b.additions) h.quotients) in
     let quotients = registrations-ordered t.context.signature t b.registrations old (k items a v) in
@@ -451,7 +436,7 @@ pub stay-ordered : SessionsStayOrdered
 stay-ordered s c items later h g =
     let k : RegistersInOrder s g.0 = comes-block (RegistersInOrder s) s (row_of s c) g.0 (in-rows s h c)
     (comes-unless (first_wrong (tests_before s c)) (ComesOfRow s (row_of s c)) g.0 g.1) in
-    let o = behind-ordered s g.0 items h k (items-alike g.0.additions items g.2) g.3 in
+    let o = behind-ordered s g.0 items h k g.2 g.3 in
     record {
       theory = theory-kept s c items later h.theory g;
       typedefs = subst (λ (t : Session). AreTypedefsInOrder t.context.signature t.typedefs) (sym g.4) o.0;
@@ -459,7 +444,7 @@ stay-ordered s c items later h g =
     }
 
 pub new-ordered : NewSessionsAreOrdered
-new-ordered limit = record { theory = ([], tt, (refl, tt)); typedefs = tt; quotients = tt }
+new-ordered limit = record { theory = ([], tt, refl); typedefs = tt; quotients = tt }
 
 pub have-quotients : SessionsHaveQuotients
 have-quotients s abs raw h e f = quotients-exist s.registry s.quotients s.context.signature abs raw h.quotients e f

@@ -1,40 +1,33 @@
 -- The items that a walk gives are a valid plain theory.
 use Rattle.std.specs.Prelude.{◌≡◌, List, [], ◌∷◌, ◌++◌, fold}
-use Rattle.std.proofs.Common.{refl, sym, subst, inl, inr}
-use Rattle.lt_definitions.specs.Items.{Item, lemma_item, Context, empty, with_item, context_of}
+use Rattle.std.proofs.Common.{refl, sym, ap, ◌∙◌, subst, inl, inr}
+use Rattle.lt_definitions.specs.Items.{Item, Context, empty, with_item, context_of}
 use Rattle.lt_definitions.specs.Theory.{AreValid}
 use Rattle.lt_transport_definitions.specs.Sessions.{Session, new_session}
 use Rattle.lt_texts.specs.Commands.{Command}
 use Rattle.lt_walks.specs.Walks.{WalksText, Walks}
 use Rattle.lt_transport_definitions.specs.Commands.{Addition, this_item, a_lemma, Block, item_of, with_addition, session_behind}
-use Rattle.lt_transport_definitions.specs.Blocks.{Gives}
+use Rattle.lt_transport_definitions.specs.Blocks.{IsItemOf, AreItemsOf, Gives}
 use Rattle.lt_transport_definitions.specs.TheoryWalks.{items_of_blocks}
 use Rattle.lt_transport_laws.specs.SessionStatements.{WalksArePlain, RunsArePlain}
-use Rattle.lt_transport_laws.specs.OrderStatements.{AreAlphaEqualContexts}
-use Rattle.lt_transport_laws.proofs.AlphaItemLemmas.{same-statements, adds-alpha, valid-alpha, IsAlikeItemOf, AreAlikeItemsOf, items-alike}
 use Rattle.lt_transport_laws.proofs.InStep.{context-kept}
 
 -- an addition and its item add the same
-pub one-adds : (c d : Context) → AreAlphaEqualContexts c d → (a : Addition) (item : Item) → IsAlikeItemOf a item
-    → AreAlphaEqualContexts (with_item c (item_of a)) (with_item d item)
-one-adds c d e (this_item i) item h = adds-alpha c d e i item h
-one-adds c d e (a_lemma l t) item h = adds-alpha c d e (lemma_item l t h.0) item h.1
+pub adds-same : (c : Context) (a : Addition) (item : Item) → IsItemOf a item → with_item c (item_of a) ≡ with_item c item
+adds-same c (this_item i) item h = ap (with_item c) (sym h)
+adds-same c (a_lemma l t) item h = ap (with_item c) (sym h.1)
 
 -- so do additions and their items
-all-add : (s : Session) (d : Context) (additions : List Addition) (items : List Item) → AreAlphaEqualContexts s.context d → AreAlikeItemsOf additions items
-    → AreAlphaEqualContexts (fold with_addition s additions).context (context_of d items)
-all-add s d [] [] e h = e
-all-add s d [] (item ∷ items) e h = absurd h
-all-add s d (a ∷ additions) [] e h = absurd h
-all-add s d (a ∷ additions) (item ∷ items) e h =
-    all-add (with_addition s a) (with_item d item) additions items (one-adds s.context d e a item h.0) h.1
+all-add : (s : Session) (additions : List Addition) (items : List Item) → AreItemsOf additions items → (fold with_addition s additions).context ≡ context_of s.context items
+all-add s [] [] h = refl
+all-add s [] (item ∷ items) h = absurd h
+all-add s (a ∷ additions) [] h = absurd h
+all-add s (a ∷ additions) (item ∷ items) h =
+    all-add (with_addition s a) additions items h.1 ∙ ap (λ (c : Context). context_of c items) (adds-same s.context a item h.0)
 
 -- the items of a block leave what the block leaves
-pub behind-alpha : (s : Session) (b : Block) (items : List Item) → AreAlikeItemsOf b.additions items
-    → AreAlphaEqualContexts (session_behind s b).context (context_of s.context items)
-behind-alpha s b items h = subst (λ (c : Context). AreAlphaEqualContexts c (context_of s.context items))
-    (sym (context-kept (fold with_addition s b.additions) b.registrations))
-    (all-add s s.context b.additions items (refl, same-statements s.context.statements) h)
+pub behind-same : (s : Session) (b : Block) (items : List Item) → AreItemsOf b.additions items → (session_behind s b).context ≡ context_of s.context items
+behind-same s b items h = context-kept (fold with_addition s b.additions) b.registrations ∙ all-add s b.additions items h
 
 pub valid-on : (ctx : Context) (xs ys : List Item) → AreValid ctx xs → AreValid (context_of ctx xs) ys → AreValid ctx (xs ++ ys)
 valid-on ctx [] ys h k = k
@@ -45,8 +38,7 @@ one-block : (s later : Session) (c : Command) (items : List Item) (more : List (
 one-block s later c items more g h =
     let k : AreValid (session_behind s g.0).context (items_of_blocks more) =
     subst (λ (t : Session). AreValid t.context (items_of_blocks more)) g.4 h in
-    let v = valid-alpha (session_behind s g.0).context (context_of s.context items)
-    (behind-alpha s g.0 items (items-alike g.0.additions items g.2)) (items_of_blocks more) k in
+    let v = subst (λ (d : Context). AreValid d (items_of_blocks more)) (behind-same s g.0 items g.2) k in
     valid-on s.context items (items_of_blocks more) g.3 v
 
 pub walks-plain : WalksArePlain

@@ -1,14 +1,12 @@
 -- The statements of a valid theory have their binders.
 use Rattle.std.specs.Prelude.{◌≡◌, List, [], ◌∷◌, ◌++◌, Bool, true, false, ◌||◌, ◌&&◌, not, Option, Some, None, codes}
-use Rattle.std.proofs.Common.{refl, ◌∙◌}
+use Rattle.std.proofs.Common.{refl, sym, subst}
 use Rattle.lt_definitions.specs.Types.{Chars, same_name, TypeTree, bool, fun}
 use Rattle.lt_definitions.specs.Terms.{TermTree, has_loose, HasNoLooseNames}
 use Rattle.lt_definitions.specs.Typing.{typed}
 use Rattle.lt_definitions.specs.Items.{Item, type_item, const_item, axiom_item, def_item, typedef_item, lemma_item, Context, empty, definition_label, definition_statement, new_type, raw_type, with_typedef, rep_statement, rep_inverse_statement, abs_inverse_statement, typedef_statements, with_item, context_of}
 use Rattle.lt_definitions.specs.Theory.{refusal, AreValid}
 use Rattle.lt_definitions.specs.Extensions.{IsDefinition, IsTypedef}
-use Rattle.lt_nameless.specs.AlphaEqualLines.{AreAlphaEqualStatements}
-use Rattle.lt_nameless.proofs.AlphaLaws.{alpha_keeps_loose_names}
 use Rattle.lt_nameless.proofs.Refusals.{accepted_is_valid}
 use Rattle.lt_nameless.proofs.TypeLaws.{typed_terms_have_no_loose_names}
 use Rattle.lt_transport_definitions.specs.Sessions.{Session}
@@ -70,12 +68,6 @@ items-scoped : (ctx : Context) (items : List Item) → AreValid ctx items → Ar
 items-scoped ctx [] v h = h
 items-scoped ctx (item ∷ items) v h = items-scoped (with_item ctx item) items v.1 (item-scoped ctx item v.0 h)
 
-alpha-scoped : (ps qs : List (Chars × TermTree)) → AreAlphaEqualStatements ps qs → AreScopedStatements qs → AreScopedStatements ps
-alpha-scoped [] [] e h = tt
-alpha-scoped [] (q ∷ qs) e h = absurd e
-alpha-scoped (p ∷ ps) [] e h = absurd e
-alpha-scoped (p ∷ ps) (q ∷ qs) e h = ((λ z. alpha_keeps_loose_names p.1 q.1 z e.1 ∙ h.0 z), alpha-scoped ps qs e.2 h.1)
-
 -- so do those of a session of one
 pub theory-scoped : (s : Session) → IsOfTheory s → AreScopedStatements s.context.statements
-theory-scoped s t = alpha-scoped s.context.statements (context_of empty t.0).statements t.2.1 (items-scoped empty t.0 t.1 tt)
+theory-scoped s t = subst (λ (c : Context). AreScopedStatements c.statements) (sym t.2) (items-scoped empty t.0 t.1 tt)

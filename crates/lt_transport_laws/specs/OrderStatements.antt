@@ -3,9 +3,8 @@
 use Rattle.std.specs.Prelude.{◌≡◌, ℕ, List, [], ◌∷◌, true, None, Ok}
 use Rattle.lt_definitions.specs.Types.{TypeTree, bool, fun}
 use Rattle.lt_definitions.specs.Typing.{Signature, type_fault, typed}
-use Rattle.lt_definitions.specs.Items.{Item, Context, empty, new_type, context_of}
+use Rattle.lt_definitions.specs.Items.{Item, empty, new_type, context_of}
 use Rattle.lt_definitions.specs.Theory.{IsPlainTheory}
-use Rattle.lt_nameless.specs.AlphaEqualLines.{AreAlphaEqualStatements}
 use Rattle.lt_transport_definitions.specs.Sessions.{Typedef, Session, new_session, signature_of}
 use Rattle.lt_transport_definitions.specs.Quotients.{Quot, IsQuotBetween}
 use Rattle.lt_transport_definitions.specs.QuotientBlocks.{is_in_order}
@@ -13,15 +12,9 @@ use Rattle.lt_texts.specs.Commands.{Command}
 use Rattle.lt_transport_definitions.specs.Blocks.{Gives}
 use Rattle.lt_transport_laws.specs.QuotientStatements.{AreInOrder}
 
--- One signature, and alpha-equal statements under the same labels.
-abbrev pub AreAlphaEqualContexts : Context → Context → Type 0
-AreAlphaEqualContexts c d =
-    (c.signature ≡ d.signature) × AreAlphaEqualStatements c.statements d.statements
-
--- What a session declares and states is what a valid plain theory does, up to alpha equality.
+-- What a session declares and states is what a valid plain theory does.
 abbrev pub IsOfTheory : Session → Type 0
-IsOfTheory s = (items : List Item) × IsPlainTheory items
-    × AreAlphaEqualContexts s.context (context_of empty items)
+IsOfTheory s = (items : List Item) × IsPlainTheory items × (s.context ≡ context_of empty items)
 
 -- A typedef over a type that was declared before it.
 pub record IsTypedefInOrder (sig : Signature) (t : Typedef) : Type 0 where

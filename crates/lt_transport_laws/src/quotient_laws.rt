@@ -8,8 +8,8 @@ pub fn quotients_exist()
     ensures { QuotientsExist }
 {}
 
-/// So it is in each session to which commands lead: what they declare and state is, up to alpha
-/// equality, a valid plain theory, and typedefs and quotients are in order.
+/// So it is in each session to which commands lead: what it declares and states is what a valid
+/// plain theory does, and its typedefs and quotients are in order.
 pub fn sessions_stay_ordered()
     ensures new { NewSessionsAreOrdered }
     ensures kept { SessionsStayOrdered }

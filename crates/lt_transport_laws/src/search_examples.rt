@@ -11,6 +11,7 @@ ghost use Rattle.lt_transport_definitions.specs.Commands.{because};
 ghost use Rattle.lt_transport_definitions.specs.TransportRows.{question_of};
 ghost use Rattle.lt_transport_definitions.specs.Blocks.{ComesOf};
 ghost use Rattle.lt_transport_definitions.specs.Samples.{IsReached, over_related, statement_s_z, question_s_z, redex_at_p};
+ghost use Rattle.lt_transport_definitions.specs.RefusalSamples.{over_transport};
 ghost use Rattle.lt_transport_laws.specs.BoundedSamples.{over_bounded, all_k, question_bounded};
 ghost use Rattle.lt_transport_laws.specs.SearchSamples.{int, always_true, question_true, first_choices, over_implied, nots, over_given, redex};
 
@@ -46,6 +47,11 @@ pub fn refusals_of_images()
         (Err (because "TooLarge" (codes "4097" ∷ []))) }
     ensures limit { ComesOf (over_given redex) (equiv_command (codes "e") (con "q"))
         (Err (because "NormLimit" (codes "1" ∷ []))) }
+{}
+
+/// The session of the examples that has a transport comes of a text.
+pub fn a_transport_is_reached()
+    ensures { IsReached over_transport }
 {}
 
 /// The search for the image of `all x. k x`, over a typedef with a lifted predicate and three rules
