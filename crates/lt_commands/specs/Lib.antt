@@ -1,3 +1,5 @@
 pub mod Notes
+pub mod Places
+pub mod Sinks
 pub mod Making
 pub mod Views

@@ -1,38 +1,13 @@
 -- What a maker has made, as trees.
-use Rattle.std.specs.Prelude.{reverse, map}
+use Rattle.std.specs.Prelude.{reverse}
 use Rattle.lt_commands.specs.declared.maker.Maker.{Maker}
+use Rattle.lt_hol.specs.Lines.{rules_of}
 use Rattle.lt_commands.specs.Making.{Made}
-use Rattle.lt_definitions.specs.Terms.{TermTree}
-use Rattle.lt_definitions.specs.Rules as rules
+use Rattle.lt_commands.specs.Sinks.{sunk}
 use Rattle.lt_definitions.specs.Items as items
 use Rattle.lt_texts.specs.Commands as commands
-use Rattle.lt_commands.specs.declared.command.RuleLine.{RuleLine}
-use Rattle.lt_commands.specs.declared.command.RuleLine.TheVariants.{Assume, Weaken, Refl, Sym, Trans, Cong, Abs, Beta, Eta, Eqmp, ImpI, Mp, AllI, AllE, Iff, Inst, Tinst, Select, Ccontr, Thm}
 use Rattle.lt_commands.specs.declared.command.Command.{Command}
 use Rattle.lt_commands.specs.declared.command.Command.TheVariants.{TypeDecl, ConstDecl, Axiom, Def, Typedef, Lemma, Law, Corr, Relator, Property, Domain, Rule as RuleCommand, Lifting, LiftingTypedef, QuotientType, Lift, Parametric, ParamRule, Equiv, Implies, Carry, AbsEq, RepEq}
-
--- a line as a rule
-abbrev pub rule_of : RuleLine → rules.Rule TermTree
-rule_of (Assume a) = rules.by_assume a
-rule_of (Weaken a b) = rules.by_weaken a b
-rule_of (Refl a) = rules.by_refl a
-rule_of (Sym a) = rules.by_sym a
-rule_of (Trans a b) = rules.by_trans a b
-rule_of (Cong a b) = rules.by_cong a b
-rule_of (Abs a b c) = rules.by_abs a b c
-rule_of (Beta a) = rules.by_beta a
-rule_of (Eta a) = rules.by_eta a
-rule_of (Eqmp a b) = rules.by_eqmp a b
-rule_of (ImpI a b) = rules.by_impI a b
-rule_of (Mp a b) = rules.by_mp a b
-rule_of (AllI a b c) = rules.by_allI a b c
-rule_of (AllE a b) = rules.by_allE a b
-rule_of (Iff a b) = rules.by_iff a b
-rule_of (Inst a b c d) = rules.by_inst a b c d
-rule_of (Tinst a b c) = rules.by_tinst a b c
-rule_of (Select a) = rules.by_select a
-rule_of (Ccontr a) = rules.by_ccontr a
-rule_of (Thm a) = rules.by_thm a
 
 -- a command as a tree
 abbrev pub command_of : Command → commands.Command
@@ -41,7 +16,7 @@ command_of (ConstDecl a b) = commands.item_command (items.const_item a b)
 command_of (Axiom a b) = commands.item_command (items.axiom_item a b)
 command_of (Def a b c) = commands.item_command (items.def_item a b c)
 command_of (Typedef a b c d e f) = commands.item_command (items.typedef_item a b c d e f)
-command_of (Lemma a b c) = commands.item_command (items.lemma_item a b (map rule_of c.items))
+command_of (Lemma a b c) = commands.item_command (items.lemma_item a b (rules_of c.nodes c.lines))
 command_of (Law a b) = commands.law_command a b
 command_of (Corr a) = commands.corr_command a
 command_of (Relator a b c d e f) = commands.relator_command a b c d e f
@@ -67,11 +42,9 @@ made_of m = record {
   types = reverse m.types.items;
   heads = reverse m.heads.items;
   binders = reverse m.binders.items;
-  terms = m.terms;
-  wholes = reverse m.wholes.items;
+  terms = sunk m.terms;
   labels = reverse m.labels.items;
   numbers = reverse m.numbers.items;
   params = reverse m.params.items;
   names = reverse m.names.items;
-  lines = map rule_of m.lines.items;
 }

@@ -1,15 +1,24 @@
 //! Makes items and commands of the newest things.
-ghost use Rattle.std.specs.Prelude.{◌≡◌, Option, option_map};
+ghost use Rattle.std.specs.Prelude.{◌≡◌, IfOk, Option, option_map};
+ghost use Rattle.lt_grammar.specs.declared.words.Part.TheVariants as parts;
+ghost use Rattle.lt_commands.specs.declared.note.Note.TheVariants as notes;
 ghost use Rattle.lt_grammar.specs.declared.words.ItemWord.TheVariants as items;
 ghost use Rattle.lt_grammar.specs.declared.words.CommandWord.TheVariants as words;
 ghost use Rattle.lt_grammar.specs.declared.words.Head.TheVariants as heads;
 ghost use Rattle.lt_grammar.specs.Table.{item_row, command_row};
-ghost use Rattle.lt_commands.specs.Making.{make_row, as_item, command_made};
+ghost use Rattle.lt_hol.specs.Lines.{rules_of};
+ghost use Rattle.lt_commands.specs.Making.{pop, put, make_row, as_item, lemma_of, command_made};
 ghost use Rattle.lt_commands.specs.Views.{made_of, command_of};
 
 use crate::command::Command;
 use crate::maker::Maker;
+use crate::note::Note;
+use crate::term_sink::TermSink;
 use lt_grammar::words::{CommandWord, Head, ItemWord};
+use lt_hol::Lines;
+use lt_terms::Term;
+use lt_types::{Memory, Name, Ty};
+use std::alloc::Global;
 
 impl Maker {
     fn type_decl(&mut self) -> Option<Command>
@@ -270,14 +279,35 @@ impl Maker {
         }
     }
 
+    /// The one type that was made.
+    pub fn ty(self, alloc: Global) -> Result<Option<Ty>, Memory>
+        ensures { IfOk result
+            (λ o. o ≡ (pop parts.AType (put notes.KeepType (made_of self))).0) }
+    {
+        let mut maker = self;
+        maker.put(alloc, Note::KeepType)?;
+        Ok(maker.whole_type())
+    }
+
+    /// The one term that was made, no line having begun.
+    pub fn term(self, alloc: Global) -> Result<Option<Term>, Memory>
+        ensures { IfOk result
+            (λ o. o ≡ (pop parts.AStatement (put notes.KeepTerm (made_of self))).0) }
+    {
+        let mut maker = self;
+        maker.put(alloc, Note::KeepTerm)?;
+        Ok(maker.whole())
+    }
+
     fn lemma(self) -> Option<Command>
         ensures { option_map command_of result ≡ command_made heads.Lemma (made_of self) }
     {
         let mut maker = self;
         let statement = maker.whole();
         let label = maker.newest_label();
-        let Maker { lines, .. } = maker;
-        Some(Command::Lemma(label?, statement?, lines))
+        let Maker { terms, .. } = maker;
+        let TermSink { lines, .. } = terms;
+        lemma_from(statement, label, lines)
     }
 
     /// The command that begins so.
@@ -292,4 +322,12 @@ impl Maker {
             Head::Command(command) => maker.further(command),
         }
     }
+}
+
+/// The lemma of its parts, if they are there.
+fn lemma_from(statement: Option<Term>, label: Option<Name>, lines: Lines) -> Option<Command>
+    ensures { option_map command_of result
+        ≡ lemma_of statement label (rules_of lines.nodes lines.lines) }
+{
+    Some(Command::Lemma(label?, statement?, lines))
 }

@@ -5,8 +5,13 @@ mod command;
 mod commands;
 mod maker;
 mod note;
+mod refusal;
 mod rows;
+mod sinking;
+mod term_sink;
 
-pub use command::{Command, RuleLine};
+pub use command::Command;
 pub use maker::Maker;
 pub use note::Note;
+pub use refusal::{NotParametric, Placed, Refusal, Refused, SequentTerms};
+pub use term_sink::TermSink;

@@ -4,10 +4,10 @@ ghost use Rattle.lt_commands.specs.declared.note.Note.TheVariants as notes;
 ghost use Rattle.lt_commands.specs.Making.{nothing, put};
 ghost use Rattle.lt_commands.specs.Views.{made_of};
 
-use crate::command::RuleLine;
 use crate::note::Note;
+use crate::term_sink::TermSink;
 use lt_grammar::words::RuleWord;
-use lt_terms::{Term, TermBuilder};
+use lt_terms::TermNode;
 use lt_types::{List, Memory, Name, Ty, TyBuilder};
 use std::alloc::Global;
 use std::mem;
@@ -20,13 +20,11 @@ pub struct Maker {
     pub types: Vec<Ty>,
     pub heads: Vec<(Name, List<Ty>)>,
     pub binders: Vec<Name>,
-    pub terms: TermBuilder,
-    pub wholes: Vec<Term>,
+    pub terms: TermSink,
     pub labels: Vec<Name>,
-    pub numbers: Vec<u32>,
+    pub numbers: Vec<usize>,
     pub params: Vec<Name>,
     pub names: Vec<List<Name>>,
-    pub lines: Vec<RuleLine>,
 }
 
 impl Maker {
@@ -40,13 +38,11 @@ impl Maker {
             types: Vec::new(alloc),
             heads: Vec::new(alloc),
             binders: Vec::new(alloc),
-            terms: TermBuilder::new(alloc),
-            wholes: Vec::new(alloc),
+            terms: TermSink::new(alloc),
             labels: Vec::new(alloc),
             numbers: Vec::new(alloc),
             params: Vec::new(alloc),
             names: Vec::new(alloc),
-            lines: Vec::new(alloc),
         }
     }
 
@@ -76,9 +72,7 @@ impl Maker {
     fn bound(&mut self, alloc: Global, name: Name) -> Result<(), Memory>
         ensures { OnOk result (made_of self.new ≡ put (notes.Bound name) (made_of self.old)) }
     {
-        let terms = mem::replace(&mut self.terms, TermBuilder::new(alloc));
-        self.terms = terms.bound(alloc, name)?;
-        Ok(())
+        self.terms.leaf(alloc, TermNode::Bound(name))
     }
 
     fn constant_name(&mut self, alloc: Global, name: Name) -> Result<(), Memory>
@@ -95,8 +89,8 @@ impl Maker {
     {
         if let Some((name, before)) = self.heads.pop() {
             self.types = before.into_vec();
-            let terms = mem::replace(&mut self.terms, TermBuilder::new(alloc));
-            self.terms = terms.constant(alloc, name, List::new(alloc))?;
+            self.terms
+                .leaf(alloc, TermNode::Const(name, List::new(alloc)))?;
         }
         Ok(())
     }
@@ -128,8 +122,8 @@ impl Maker {
     {
         if let Some((name, before)) = self.heads.pop() {
             let types = mem::replace(&mut self.types, before.into_vec());
-            let terms = mem::replace(&mut self.terms, TermBuilder::new(alloc));
-            self.terms = terms.constant(alloc, name, List::from_vec(types))?;
+            self.terms
+                .leaf(alloc, TermNode::Const(name, List::from_vec(types)))?;
         }
         Ok(())
     }
@@ -146,8 +140,7 @@ impl Maker {
     {
         if let Some(name) = self.binders.pop() {
             if let Some(ty) = self.types.pop() {
-                let terms = mem::replace(&mut self.terms, TermBuilder::new(alloc));
-                self.terms = terms.free(alloc, name, ty)?;
+                self.terms.leaf(alloc, TermNode::Free(name, ty))?;
             }
         }
         Ok(())
@@ -165,10 +158,7 @@ impl Maker {
     {
         if let Some(name) = self.binders.pop() {
             if let Some(ty) = self.types.pop() {
-                if self.terms.len() >= 1 {
-                    let terms = mem::replace(&mut self.terms, TermBuilder::new(alloc));
-                    self.terms = terms.lam(alloc, name, ty)?;
-                }
+                self.terms.lam(alloc, name, ty)?;
             }
         }
         Ok(())
@@ -177,21 +167,20 @@ impl Maker {
     fn apply(&mut self, alloc: Global) -> Result<(), Memory>
         ensures { OnOk result (made_of self.new ≡ put notes.Apply (made_of self.old)) }
     {
-        if self.terms.len() >= 2 {
-            let terms = mem::replace(&mut self.terms, TermBuilder::new(alloc));
-            self.terms = terms.app(alloc)?;
-        }
-        Ok(())
+        self.terms.app(alloc)
     }
 
     fn keep_term(&mut self, alloc: Global) -> Result<(), Memory>
         ensures { OnOk result (made_of self.new ≡ put notes.KeepTerm (made_of self.old)) }
     {
-        if self.terms.len() == 1 {
-            let terms = mem::replace(&mut self.terms, TermBuilder::new(alloc));
-            self.wholes.push(terms.finish())?;
-        }
-        Ok(())
+        self.terms.keep(alloc)
+    }
+
+    fn begin_line(&mut self, rule: RuleWord)
+        ensures { made_of self.new ≡ put (notes.BeginLine rule) (made_of self.old) }
+    {
+        let _word = rule;
+        self.terms.begin();
     }
 
     fn label(&mut self, name: Name) -> Result<(), Memory>
@@ -204,7 +193,7 @@ impl Maker {
     fn count(&mut self, number: u32) -> Result<(), Memory>
         ensures { OnOk result (made_of self.new ≡ put (notes.Count number) (made_of self.old)) }
     {
-        self.numbers.push(number)?;
+        self.numbers.push(number as usize)?;
         Ok(())
     }
 
@@ -230,13 +219,13 @@ impl Maker {
         Ok(())
     }
 
-    fn end_line(&mut self, rule: RuleWord) -> Result<(), Memory>
+    fn end_line(&mut self, alloc: Global, rule: RuleWord) -> Result<(), Memory>
         ensures { OnOk result (made_of self.new ≡ put (notes.EndLine rule) (made_of self.old)) }
     {
-        if let Some(line) = self.line(rule) {
-            self.lines.push(line)?;
+        match self.line(rule) {
+            Some(line) => self.terms.push_line(alloc, line),
+            None => Ok(()),
         }
-        Ok(())
     }
 
     /// What a note makes.
@@ -264,9 +253,11 @@ impl Maker {
             Note::Variable(name) => self.variable(name),
             Note::Parameter(name) => self.parameter(name),
             Note::KeepParameters => self.keep_parameters(alloc),
-            Note::BeginLine(_) => Ok(()),
-            Note::EndLine(rule) => self.end_line(rule),
-            Note::Begin(_) => Ok(()),
+            Note::BeginLine(rule) => {
+                self.begin_line(rule);
+                Ok(())
+            }
+            Note::EndLine(rule) => self.end_line(alloc, rule),
         }
     }
 }

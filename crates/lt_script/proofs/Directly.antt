@@ -105,3 +105,7 @@ pub marked_on : (s0 : List Symbol) (b0 : List Note) (s s' : Left) (st : List Sym
 marked_on s0 b0 s s' st b c t w places places' e f g =
     g ∙ (λ i. e i ++ marked (begins_by (step_on st w)) (token_place (f i)))
     ∙ sym (marks_snoc c.0 w s0 st b0 b s s' c.1 c.2)
+
+-- the stack of what is expected behind the word of a sentence
+pub head_expected : (n : ℕ) (k : Head) (st st0 : List Symbol) → reverse st ≡ expected n k ++ reverse st0 → st0 ≡ [] → reverse st ≡ expected n k
+head_expected n k st st0 e f = e ∙ ap (λ (z : List Symbol). expected n k ++ reverse z) f ∙ append-nil (expected n k)

@@ -19,7 +19,6 @@ use Rattle.lt_script.specs.declared.symbol.Symbol.TheVariants.{Lines}
 use Rattle.lt_script.specs.declared.read_error.ReadError.{ReadError}
 use Rattle.lt_script.specs.declared.read_error.ReadError.TheVariants.{BadHeader, BadCommand, Syntax, BadByte, BadChar}
 use Rattle.lt_commands.specs.declared.note.Note.{Note}
-use Rattle.lt_commands.specs.declared.note.Note.TheVariants.{Begin as begin}
 use Rattle.lt_commands.specs.Notes.{text_notes}
 use Rattle.lt_script.specs.Machine.{Move, expected, part_move, header_move, step_part, step_header, State, state, onward, run}
 use Rattle.lt_script.specs.Stops.{IsWaiting, Reads, StopsBy, Stops, StopsAt, call_of}
@@ -159,14 +158,14 @@ module _ (h : Form) where
   abbrev Begun : (Lexeme → Option Move) → Lexeme → List Symbol → List Note → Type 0
   Begun first w st b = (ws : List Lexeme) → first_run first (w ∷ ws) ≡ run st b ws
 
-  begun-by : (o : Option Head) (k : Head) (ws : List Lexeme) → o ≡ Some k → onward (part_move h.number o) (λ m. run m.pushed m.made ws) ≡ run (expected h.number k) (begin k ∷ []) ws
+  begun-by : (o : Option Head) (k : Head) (ws : List Lexeme) → o ≡ Some k → onward (part_move h.number o) (λ m. run m.pushed m.made ws) ≡ run (expected h.number k) [] ws
   begun-by o k ws e = ap (λ (z : Option Head). onward (part_move h.number z) (λ m. run m.pushed m.made ws)) e
 
-  begun : (c : Chars) (k : Head) → head_of h c ≡ Some k → Begun (step_part h) (a_name c) (expected h.number k) (begin k ∷ [])
+  begun : (c : Chars) (k : Head) → head_of h c ≡ Some k → Begun (step_part h) (a_name c) (expected h.number k) []
   begun c k e ws = begun-by (head_of h c) k ws e
 
   -- what was read behind the word of a part is that part
-  pub reads_part : (s s' : Left) (c : Chars) (k : Head) (b : List Note) → IsNextLexeme s (a_name c) → head_of h c ≡ Some k → (r : Reads (expected h.number k) (begin k ∷ []) (after s) b s')
+  pub reads_part : (s s' : Left) (c : Chars) (k : Head) (b : List Note) → IsNextLexeme s (a_name c) → head_of h c ≡ Some k → (r : Reads (expected h.number k) [] (after s) b s')
       → (p : PartText) × MayStand h p × Spans s (text_lexemes h p []) s' × (b ≡ text_notes p []) × (a_name c ∷ r.0 ≡ text_lexemes h p [])
   reads_part s s' c k b n e (ws, f, g) =
       let came : first_run (step_part h) (a_name c ∷ ws) ≡ Some (state [] b) = begun c k e ws ∙ g in
@@ -200,7 +199,7 @@ module _ (h : Form) where
   called-by k c n false e q = other-word k c n e q
 
   stops-by : (k : Head) (c : Chars) (ws : List Lexeme) (s : Left) (l : Lexed) (e : ReadError) → head_of h c ≡ Some k
-      → Stops (expected h.number k) (begin k ∷ []) (call_of k) ws s l e → StopsBy (first_run (step_part h)) (called h (a_name c ∷ ws)) (a_name c ∷ ws) s l e
+      → Stops (expected h.number k) [] (call_of k) ws s l e → StopsBy (first_run (step_part h)) (called h (a_name c ∷ ws)) (a_name c ∷ ws) s l e
   stops-by k c ws s (One t) e g (q, f) = (q ∙ called-by k c t.from (bytes_eq c h.word) g refl, begun c k g (ws ++ lexeme t.kind (spelling s) ∷ []) ∙ f)
   stops-by k c ws s End e g q = q ∙ called-by k c (length s.source) (bytes_eq c h.word) g refl
   stops-by k c ws s (NoText n) e g q = q
@@ -208,19 +207,19 @@ module _ (h : Form) where
 
   -- what stops the reading of a part is wrong in the text
   pub part_fails : (s s' : Left) (c : Chars) (k : Head) (e : ReadError) → Past s s' → IsNextLexeme s' (a_name c) → head_of h c ≡ Some k
-      → StopsAt (expected h.number k) (begin k ∷ []) (call_of k) (after s') e → FailsAt h s e
+      → StopsAt (expected h.number k) [] (call_of k) (after s') e → FailsAt h s e
   part_fails s s' c k e p n g (ws, at, m, f, q, i, st) =
       stop_fails s s' at (a_name c) ws e p (n, f) (m, begun c k g ws ∙ q, i, stops-by k c ws at (lexed at) e g st)
 
   -- ---- the header
 
-  header-begun-by : (o : Option Head) (ws : List Lexeme) → o ≡ Some Header → onward (header_move h.number o) (λ m. run m.pushed m.made ws) ≡ run (expected h.number Header) (begin Header ∷ []) ws
+  header-begun-by : (o : Option Head) (ws : List Lexeme) → o ≡ Some Header → onward (header_move h.number o) (λ m. run m.pushed m.made ws) ≡ run (expected h.number Header) [] ws
   header-begun-by o ws e = ap (λ (z : Option Head). onward (header_move h.number z) (λ m. run m.pushed m.made ws)) e
 
-  header-begun : (c : Chars) → head_of h c ≡ Some Header → Begun (step_header h) (a_name c) (expected h.number Header) (begin Header ∷ [])
+  header-begun : (c : Chars) → head_of h c ≡ Some Header → Begun (step_header h) (a_name c) (expected h.number Header) []
   header-begun c e ws = header-begun-by (head_of h c) ws e
 
-  pub reads_header : (s s' : Left) (c : Chars) (b : List Note) → IsNextLexeme s (a_name c) → head_of h c ≡ Some Header → Reads (expected h.number Header) (begin Header ∷ []) (after s) b s' → Spans s (text_lexemes h header []) s'
+  pub reads_header : (s s' : Left) (c : Chars) (b : List Note) → IsNextLexeme s (a_name c) → head_of h c ≡ Some Header → Reads (expected h.number Header) [] (after s) b s' → Spans s (text_lexemes h header []) s'
   reads_header s s' c b n e (ws, f, g) =
       let l = sound_header h (a_name c) ws b (ap finished (header-begun c e ws ∙ g)) in
       subst (λ (z : List Lexeme). Spans s z s') (l.1 ∙ ap (text_lexemes h header) l.2) (n, f)
@@ -232,13 +231,13 @@ module _ (h : Form) where
   header-wrong w ws s (NoToken n) e (m, g, i, q) = q
 
   header-stops : (c : Chars) (ws : List Lexeme) (s : Left) (l : Lexed) (e : ReadError) → head_of h c ≡ Some Header
-      → Stops (expected h.number Header) (begin Header ∷ []) BadHeader ws s l e → StopsBy (first_run (step_header h)) BadHeader (a_name c ∷ ws) s l e
+      → Stops (expected h.number Header) [] BadHeader ws s l e → StopsBy (first_run (step_header h)) BadHeader (a_name c ∷ ws) s l e
   header-stops c ws s (One t) e g (q, f) = (q, header-begun c g (ws ++ lexeme t.kind (spelling s) ∷ []) ∙ f)
   header-stops c ws s End e g q = q
   header-stops c ws s (NoText n) e g q = q
   header-stops c ws s (NoToken n) e g q = q
 
-  pub header_fails : (s : Left) (c : Chars) (e : ReadError) → IsNextLexeme s (a_name c) → head_of h c ≡ Some Header → StopsAt (expected h.number Header) (begin Header ∷ []) BadHeader (after s) e → HeaderFailsAt h s e
+  pub header_fails : (s : Left) (c : Chars) (e : ReadError) → IsNextLexeme s (a_name c) → head_of h c ≡ Some Header → StopsAt (expected h.number Header) [] BadHeader (after s) e → HeaderFailsAt h s e
   header_fails s c e n g (ws, at, m, f, q, i, st) =
       let came = header-begun c g ws ∙ q in
       let front = header_front h (a_name c ∷ ws) m came i in

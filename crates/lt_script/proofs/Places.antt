@@ -4,13 +4,12 @@ use Rattle.lt_texts.specs.declared.lexical.TokenKind.TheVariants as kinds
 use Rattle.lt_texts.specs.Lexemes.{Lexeme, a_name, a_variable, a_sign}
 use Rattle.lt_texts.specs.Forms.{Form}
 use Rattle.lt_grammar.specs.declared.words.Part.TheVariants.{Label, Number, Variable, Parameters, AType, AStatement, ATerm, Fixed as Exactly}
-use Rattle.lt_grammar.specs.declared.words.Head.TheVariants.{Header}
 use Rattle.lt_grammar.specs.Rows.{fixed, number}
 use Rattle.lt_grammar.specs.RowTexts.{PartText, header, text_lexemes, texts_lexemes, MayStand}
 use Rattle.lt_script.specs.declared.symbol.Symbol.{Symbol}
 use Rattle.lt_script.specs.declared.symbol.Symbol.TheVariants.{«Type», Constructor, MoreTypes, Term, Inside, Brackets, Arguments, MoreTerms, BoundName, FreeName, CloseFree, LambdaName, Body, CloseLambda, KeepType, KeepTerm, Part as APartOf, HeaderNumber, Lines, EndLine}
 use Rattle.lt_commands.specs.declared.note.Note.{Note}
-use Rattle.lt_commands.specs.declared.note.Note.TheVariants.{TypeAlone as type_alone, TypeOpen as type_open, TypeClose as type_close, KeepType as keep_type, Arguments as arguments, Bound as bound_name, FreeName as free_name, FreeClose as free_close, LambdaName as lambda_name, LambdaClose as lambda_close, Apply as apply, KeepTerm as keep_term, Label as label, Count as count, Variable as variable, KeepParameters as keep_parameters, EndLine as end_line, Begin as begin}
+use Rattle.lt_commands.specs.declared.note.Note.TheVariants.{TypeAlone as type_alone, TypeOpen as type_open, TypeClose as type_close, KeepType as keep_type, Arguments as arguments, Bound as bound_name, FreeName as free_name, FreeClose as free_close, LambdaName as lambda_name, LambdaClose as lambda_close, Apply as apply, KeepTerm as keep_term, Label as label, Count as count, Variable as variable, KeepParameters as keep_parameters, EndLine as end_line}
 use Rattle.lt_commands.specs.Notes.{text_notes}
 use Rattle.lt_script.specs.Machine.{Move, step_part, step_header, step_on, State, state, onward, run}
 use Rattle.lt_script.specs.Stops.{IsWaiting}
@@ -208,7 +207,7 @@ rest_led h ws ([], m, e) = inl e
 rest_led h ws (p ∷ ps, m, e) = inr (text_lexemes h p [], texts_lexemes h ps [], text_notes p [], e ∙ text_splits h p [] (texts_lexemes h ps []), takes_text h p [] m.0)
 
 pub whole_led : (h : Form) → IsLed (step_header h) (IsWhole h)
-whole_led h ws (ps, m, e) = inr (text_lexemes h header [], texts_lexemes h ps [], begin Header ∷ [], e ∙ text_splits h header [] (texts_lexemes h ps []), takes_header h [])
+whole_led h ws (ps, m, e) = inr (text_lexemes h header [], texts_lexemes h ps [], [], e ∙ text_splits h header [] (texts_lexemes h ps []), takes_header h [])
 
 -- ---- what the machine came through is a front
 
@@ -230,7 +229,7 @@ front h (w ∷ ws) m e g =
 
 header-wanting : (h : Form) (ws us : List Lexeme) (m : State) → first_run (step_header h) ws ≡ Some m → IsWaiting m.stack → ws ++ us ≡ text_lexemes h header [] → (w : Lexeme) × (more : List Lexeme) × (ws ++ w ∷ more ≡ text_lexemes h header [])
 header-wanting h ws [] m e g f =
-    let same : Some m ≡ Some (state [] (begin Header ∷ [])) = sym e ∙ ap (first_run (step_header h)) (sym (append-nil ws) ∙ f) ∙ takes_header h [] in
+    let same : Some m ≡ Some (state [] []) = sym e ∙ ap (first_run (step_header h)) (sym (append-nil ws) ∙ f) ∙ takes_header h [] in
     absurd (subst IsWaiting (ap stack_of same) g)
 header-wanting h ws (u ∷ us) m e g f = (u, us, f)
 

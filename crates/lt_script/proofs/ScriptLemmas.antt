@@ -17,7 +17,6 @@ use Rattle.lt_grammar.specs.RowTexts.{PartText, header, item, lemma, command, te
 use Rattle.lt_grammar.specs.Words.{head_of, head_word}
 use Rattle.lt_grammar.proofs.Distinct.{IsHead, head_found, found_head}
 use Rattle.lt_commands.specs.declared.note.Note.{Note}
-use Rattle.lt_commands.specs.declared.note.Note.TheVariants.{Begin}
 use Rattle.lt_script.specs.declared.symbol.Symbol.{Symbol}
 use Rattle.lt_script.specs.declared.read_error.ReadError.{ReadError}
 use Rattle.lt_script.specs.declared.read_error.ReadError.TheVariants.{BadHeader, BadCommand, Syntax, BadByte, BadChar, Memory}
@@ -83,10 +82,10 @@ next-opening h s t w f q e =
     (o.0, record { placed = t; found = sym f; same = sym o.1 ∙ q }, o.2)
 
 pub header_read : (h : Form) (s s' s'' : Left) (t : Placed) (w : Lexeme) (b : List Note) → One t ≡ lexed s → s' ≡ after s → w ≡ lexeme t.kind (spelling s) → is_opening h.word w ≡ true
-    → Reads (expected h.number Header) (Begin Header ∷ []) s' b s'' → Spans s (text_lexemes h header []) s''
+    → Reads (expected h.number Header) [] s' b s'' → Spans s (text_lexemes h header []) s''
 header_read h s s' s'' t w b f g q e r =
     let o = next-opening h s t w f q e in
-    reads_header h s s'' o.0 b o.1 o.2 (subst (λ (x : Left). Reads (expected h.number Header) (Begin Header ∷ []) x b s'') g r)
+    reads_header h s s'' o.0 b o.1 o.2 (subst (λ (x : Left). Reads (expected h.number Header) [] x b s'') g r)
 
 stopped-at : (st : List Symbol) (b : List Note) (call : ℕ → ReadError) (s : Left) (e : ReadError) (P : ReadError → Type 0) → P Memory → (StopsAt st b call s e → P e) → IsStopped st b call s e → P e
 stopped-at st b call s Memory P m f h = m
@@ -97,11 +96,11 @@ stopped-at st b call s (BadByte n) P m f h = f h
 stopped-at st b call s (BadChar n) P m f h = f h
 
 pub header_stopped : (h : Form) (s s' : Left) (t : Placed) (w : Lexeme) (e : ReadError) → One t ≡ lexed s → s' ≡ after s → w ≡ lexeme t.kind (spelling s) → is_opening h.word w ≡ true
-    → IsStopped (expected h.number Header) (Begin Header ∷ []) (call_of Header) s' e → HeaderFails h s e
+    → IsStopped (expected h.number Header) [] (call_of Header) s' e → HeaderFails h s e
 header_stopped h s s' t w e f g q i st =
     let o = next-opening h s t w f q i in
-    stopped-at (expected h.number Header) (Begin Header ∷ []) (call_of Header) s' e (λ x. HeaderFails h s x) tt
-    (λ r. header_wrong h s e (header_fails h s o.0 e o.1 o.2 (subst (λ (x : Left). StopsAt (expected h.number Header) (Begin Header ∷ []) (call_of Header) x e) g r))) st
+    stopped-at (expected h.number Header) [] (call_of Header) s' e (λ x. HeaderFails h s x) tt
+    (λ r. header_wrong h s e (header_fails h s o.0 e o.1 o.2 (subst (λ (x : Left). StopsAt (expected h.number Header) [] (call_of Header) x e) g r))) st
 
 pub other_header : (h : Form) (s : Left) (t : Placed) (w : Lexeme) → One t ≡ lexed s → w ≡ lexeme t.kind (spelling s) → is_opening h.word w ≡ false → HeaderFails h s (BadHeader t.from)
 other_header h s t w f q e =
@@ -130,10 +129,10 @@ next_byte h s s' s'' at p f = none_fails h s s' (BadByte at) p (subst (λ (l : L
 pub next_char : (h : Form) (s s' s'' : Left) (at : ℕ) → Past h s s' → SaysNext h s' s'' (NoChar at) → Fails h s (BadChar at)
 next_char h s s' s'' at p f = none_fails h s s' (BadChar at) p (subst (λ (l : Lexed). BeginsNone h l s' (BadChar at)) (sym f) refl)
 
-pub next_stopped : (h : Form) (s s' s'' : Left) (k : Head) (at : ℕ) (e : ReadError) → Past h s s' → SaysNext h s' s'' (Begins k at) → IsStopped (expected h.number k) (Begin k ∷ []) (call_of k) s'' e → Fails h s e
+pub next_stopped : (h : Form) (s s' s'' : Left) (k : Head) (at : ℕ) (e : ReadError) → Past h s s' → SaysNext h s' s'' (Begins k at) → IsStopped (expected h.number k) [] (call_of k) s'' e → Fails h s e
 next_stopped h s s' s'' k at e p (c, t, f, q, d, i, g) st =
-    stopped-at (expected h.number k) (Begin k ∷ []) (call_of k) s'' e (λ x. Fails h s x) tt
-    (λ r. fails h s e (part_fails h s s' c k e p (record { placed = t; found = f; same = d }) i (subst (λ (x : Left). StopsAt (expected h.number k) (Begin k ∷ []) (call_of k) x e) g r))) st
+    stopped-at (expected h.number k) [] (call_of k) s'' e (λ x. Fails h s x) tt
+    (λ r. fails h s e (part_fails h s s' c k e p (record { placed = t; found = f; same = d }) i (subst (λ (x : Left). StopsAt (expected h.number k) [] (call_of k) x e) g r))) st
 
 -- what begins with another word is no header
 pub no_header : (h : Form) (s s' : Left) (c : Chars) (k : Head) (p : PartText) → IsNextLexeme s (a_name c) → head_of h c ≡ Some k → is_header k ≡ false → Spans s (text_lexemes h p []) s' → p ≡ header → ⊥
@@ -176,11 +175,11 @@ header_only Header e = refl
 header_only _ e = absurd (cc e)
 
 pub next_header : (h : Form) (s s' s'' s''' : Left) (k : Head) (at : ℕ) (b : List Note) → Past h s s' → SaysNext h s' s'' (Begins k at)
-    → Reads (expected h.number k) (Begin k ∷ []) s'' b s''' → is_header k ≡ true → Past h s s'''
+    → Reads (expected h.number k) [] s'' b s''' → is_header k ≡ true → Past h s s'''
 next_header h s s' s'' s''' k at b p (c, t, f, q, e, i, g) r o =
     let same : k ≡ Header = header_only k o in
     past_on h s s' s''' p (reads_header h s' s''' c b (record { placed = t; found = f; same = e }) (i ∙ ap Some same)
-    (subst (λ (x : Left). Reads (expected h.number Header) (Begin Header ∷ []) x b s''') g (subst (λ (x : Head). Reads (expected h.number x) (Begin x ∷ []) s'' b s''') same r)))
+    (subst (λ (x : Left). Reads (expected h.number Header) [] x b s''') g (subst (λ (x : Head). Reads (expected h.number x) [] s'' b s''') same r)))
 
 -- ---- sources and lengths
 

@@ -23,7 +23,6 @@ use Rattle.lt_grammar.proofs.Distinct.{IsHead, found_has, found_head}
 use Rattle.lt_script.specs.declared.symbol.Symbol.{Symbol}
 use Rattle.lt_script.specs.declared.symbol.Symbol.TheVariants.{«Type», Constructor, MoreTypes, Term, Inside, Brackets, Arguments, MoreTerms, BoundName, FreeName, CloseFree, LambdaName, Body, CloseLambda, KeepType, KeepTerm, Part as APartOf, HeaderNumber, Lines, EndLine}
 use Rattle.lt_commands.specs.declared.note.Note.{Note}
-use Rattle.lt_commands.specs.declared.note.Note.TheVariants.{Begin as begin}
 use Rattle.lt_script.proofs.Taken.{first_run}
 use Rattle.lt_script.specs.Machine.{Move, go, under, step_type, step_constructor, step_more_types, step_term, step_inside, step_brackets, step_arguments, step_bound_name, step_free_name, step_close_free, step_lambda_name, step_close_lambda, step_label, step_number, step_variable, step_parameters, is_fixed, step_part_of, step_header_number, semicolon, line_move, step_lines, step_end_line, expected, part_move, step_part, header_move, step_header, step, pass, or_pass, step_on, State, onward, run}
 
@@ -397,7 +396,7 @@ parted h c us b' None q e = absurd (cc e)
 parted h c us b' (Some k) q e =
     let f = found_head h c k q in
     one-part h k c [] us f.1 f.0 (subst (λ (s : List Symbol). Language s us) (sym (append-nil (expected h.number k)))
-    (sound (expected h.number k) (begin k ∷ []) us b' e))
+    (sound (expected h.number k) [] us b' e))
 
 pub sound_sentence : (h : Form) (w : Lexeme) (us : List Lexeme) (b' : List Note)
     → finished (first_run (step_part h) (w ∷ us)) ≡ Some b' → BeginsSentence h [] (w ∷ us)
@@ -407,7 +406,7 @@ sound_sentence h _ us b' e = absurd (cc e)
 headed : (h : Form) (c : Chars) (us : List Lexeme) (b' : List Note) (o : Option Head) → head_of h c ≡ o
     → finished (onward (header_move h.number o) (λ m. run m.pushed m.made us)) ≡ Some b' → BeginsHeader h [] (a_name c ∷ us)
 headed h c us b' (Some Header) q e =
-    one-header h c [] us (found_head h c Header q).0 (sound (expected h.number Header) (begin Header ∷ []) us b' e)
+    one-header h c [] us (found_head h c Header q).0 (sound (expected h.number Header) [] us b' e)
 headed h c us b' _ q e = absurd (cc e)
 
 pub sound_header : (h : Form) (w : Lexeme) (us : List Lexeme) (b' : List Note)

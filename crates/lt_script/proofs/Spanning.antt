@@ -20,7 +20,6 @@ use Rattle.lt_grammar.specs.RowTexts.{PartText, header, item, lemma, command, te
 use Rattle.lt_grammar.specs.Table.{item_row, command_row}
 use Rattle.lt_grammar.proofs.RowPieces.{sentence_written, may_allowed}
 use Rattle.lt_commands.specs.declared.note.Note.{Note}
-use Rattle.lt_commands.specs.declared.note.Note.TheVariants.{Begin}
 use Rattle.lt_commands.specs.declared.command.Command.{Command}
 use Rattle.lt_commands.specs.Making.{nothing, put_all, command_made}
 use Rattle.lt_commands.specs.Notes.{text_notes, head_of_text, meant_by}
@@ -55,9 +54,9 @@ unmarked st b b' s s' places r = (r.0, r.1, r.2)
 module _ (h : Form) where
   -- notes of a sentence that is no lemma begin no line
   no-lines : (p : PartText) (k : Head) (b : List Note) (ws : List Lexeme) (s : Left) (places : List ℕ) → begun (text_notes p []) ≡ 0 → b ≡ text_notes p []
-      → run (expected h.number k) (Begin k ∷ []) ws ≡ Some (state [] b) → places ≡ marks (expected h.number k) s ws → places ≡ []
+      → run (expected h.number k) [] ws ≡ Some (state [] b) → places ≡ marks (expected h.number k) s ws → places ≡ []
   no-lines p k b ws s places none e r q =
-      q ∙ none_marked ws (expected h.number k) (Begin k ∷ []) s (state [] b) r (ap begun e ∙ none)
+      q ∙ none_marked ws (expected h.number k) [] s (state [] b) r (ap begun e ∙ none)
 
   -- the command that was made is the one that is written
   the-one : (p : PartText) (k : Head) (b : List Note) (o : Option Command) (c : Command) → b ≡ text_notes p [] → k ≡ head_of_text p
@@ -67,13 +66,13 @@ module _ (h : Form) where
 
   placed : (p : PartText) (k : Head) (c : Chars) (d : Command) (b : List Note) (ws : List Lexeme) (s s' : Left) (places : List ℕ) → (p ≡ header → ⊥) → k ≡ head_of_text p
       → meant_by p ≡ Some (command_of d) → b ≡ text_notes p [] → Spans s (text_lexemes h p []) s' → a_name c ∷ ws ≡ text_lexemes h p []
-      → run (expected h.number k) (Begin k ∷ []) ws ≡ Some (state [] b) → places ≡ marks (expected h.number k) (after s) ws
+      → run (expected h.number k) [] ws ≡ Some (state [] b) → places ≡ marks (expected h.number k) (after s) ws
       → Stands s (sentence_text h (sentence_of p)) s' → MayStand h p
       → IsAllowed h (a_command (command_of d)) × CommandAt h s (command_of d) places s'
   placed header k c d b ws s s' places n kk made e f g r q w m = absurd (n refl)
   placed (item v ts) k c d b ws s s' places n kk made e f g r q w m =
       let same : commands.item_command (row_meaning (item_row v) ts) ≡ command_of d = cc made in
-      let none = no-lines (item v ts) k b ws (after s) places (parts_begun (item_row v).parts ts (Begin (head_of_text (item v ts)) ∷ [])) e r q in
+      let none = no-lines (item v ts) k b ws (after s) places (parts_begun (item_row v).parts ts []) e r q in
       subst (λ (z : commands.Command). IsAllowed h (a_command z) × CommandAt h s z places s') same (may_allowed h (item v ts) m, item_at h v ts s s' places none w)
   placed (lemma l t lines) k c d b ws s s' places n kk made e f g r q w m =
       let same : commands.item_command (lemma_item l (term_of_text t) (map rule_of_text lines)) ≡ command_of d = cc made in
@@ -81,17 +80,17 @@ module _ (h : Form) where
       (may_allowed h (lemma l t lines) m, lemma_at h l t lines s s' ws places c f g (q ∙ ap (λ (j : Head). marks (expected h.number j) (after s) ws) kk))
   placed (command v ts) k c d b ws s s' places n kk made e f g r q w m =
       let same : row_meaning (command_row v) ts ≡ command_of d = cc made in
-      let none = no-lines (command v ts) k b ws (after s) places (parts_begun (command_row v).parts ts (Begin (head_of_text (command v ts)) ∷ [])) e r q in
+      let none = no-lines (command v ts) k b ws (after s) places (parts_begun (command_row v).parts ts []) e r q in
       subst (λ (z : commands.Command). IsAllowed h (a_command z) × CommandAt h s z places s') same (may_allowed h (command v ts) m, further_at h v ts s s' places none w)
 
   pub next_placed : (s s' s'' s''' : Left) (k : Head) (from to : ℕ) (b : List Note) (places : List ℕ) (o : Option Command) (d : Command) → Past h s s' → SaysNext h s' s'' (Begins k from)
-      → ReadsLines (expected h.number k) (Begin k ∷ []) s'' b places s''' → is_header k ≡ false → option_map command_of o ≡ command_made k (put_all b nothing) → o ≡ Some d → to ≡ here s'''
+      → ReadsLines (expected h.number k) [] s'' b places s''' → is_header k ≡ false → option_map command_of o ≡ command_made k (put_all b nothing) → o ≡ Some d → to ≡ here s'''
       → NextPlaced h s (command_of d) from places to s'''
   unfolding unmarked
   next_placed s s' s'' s''' k from to b places o d (ps, a, e) (c, t, f, q, g, i, j) r n made some there =
       let next : IsNextLexeme s' (a_name c) = record { placed = t; found = f; same = g } in
-      let reads : ReadsLines (expected h.number k) (Begin k ∷ []) (after s') b places s''' = subst (λ (x : Left). ReadsLines (expected h.number k) (Begin k ∷ []) x b places s''') j r in
-      let w = reads_part h s' s''' c k b next i (unmarked (expected h.number k) (Begin k ∷ []) b (after s') s''' places reads) in
+      let reads : ReadsLines (expected h.number k) [] (after s') b places s''' = subst (λ (x : Left). ReadsLines (expected h.number k) [] x b places s''') j r in
+      let w = reads_part h s' s''' c k b next i (unmarked (expected h.number k) [] b (after s') s''' places reads) in
       let p = w.0 in
       let kk = head_is h s' s''' c k p next i w.1 w.2 in
       let stands : Stands s' (sentence_text h (sentence_of p)) s''' = (text_lexemes h p [], sentence_written h p [], spans_reads s' (text_lexemes h p []) s''' w.2) in
@@ -109,10 +108,10 @@ module _ (h : Form) where
 
   -- a sentence that isn't a header makes a command
   pub never_none : (s s' s'' s''' : Left) (k : Head) (from : ℕ) (b : List Note) (o : Option Command) → SaysNext h s' s'' (Begins k from)
-      → Reads (expected h.number k) (Begin k ∷ []) s'' b s''' → is_header k ≡ false → option_map command_of o ≡ command_made k (put_all b nothing) → o ≡ None → ⊥
+      → Reads (expected h.number k) [] s'' b s''' → is_header k ≡ false → option_map command_of o ≡ command_made k (put_all b nothing) → o ≡ None → ⊥
   never_none s s' s'' s''' k from b o (c, t, f, q, g, i, j) r n made none =
       let next : IsNextLexeme s' (a_name c) = record { placed = t; found = f; same = g } in
-      let w = reads_part h s' s''' c k b next i (subst (λ (x : Left). Reads (expected h.number k) (Begin k ∷ []) x b s''') j r) in
+      let w = reads_part h s' s''' c k b next i (subst (λ (x : Left). Reads (expected h.number k) [] x b s''') j r) in
       let kk = head_is h s' s''' c k w.0 next i w.1 w.2 in
       nothing-made w.0 (no_header h s' s''' c k w.0 next i n w.2)
       (sym (text_makes w.0) ∙ (λ z. command_made (sym kk z) (put_all (sym w.3 z) nothing)) ∙ sym made ∙ ap (option_map command_of) none)

@@ -23,7 +23,7 @@ use Rattle.lt_grammar.proofs.OneWay.{IsClear, term_clear, terms_clear, parts_cle
 use Rattle.lt_script.specs.declared.symbol.Symbol.{Symbol}
 use Rattle.lt_script.specs.declared.symbol.Symbol.TheVariants.{«Type», MoreTypes, Term, Inside, Brackets, Arguments, MoreTerms, CloseFree, Body, CloseLambda, KeepType, KeepTerm, Part as APartOf, Lines, EndLine, HeaderNumber}
 use Rattle.lt_commands.specs.declared.note.Note.{Note}
-use Rattle.lt_commands.specs.declared.note.Note.TheVariants.{TypeOpen as type_open, TypeClose as type_close, KeepType as keep_type, ConstantName as constant_name, NoArguments as no_arguments, Arguments as arguments, FreeName as free_name, LambdaName as lambda_name, Apply as apply, KeepTerm as keep_term, Parameter as parameter, BeginLine as begin_line, EndLine as end_line, Begin as begin}
+use Rattle.lt_commands.specs.declared.note.Note.TheVariants.{TypeOpen as type_open, TypeClose as type_close, KeepType as keep_type, ConstantName as constant_name, NoArguments as no_arguments, Arguments as arguments, FreeName as free_name, LambdaName as lambda_name, Apply as apply, KeepTerm as keep_term, Parameter as parameter, BeginLine as begin_line, EndLine as end_line}
 use Rattle.lt_commands.specs.Notes.{type_notes, types_notes, later_notes, arguments_notes, term_notes, terms_notes, parameters_notes, part_notes, parts_notes, lines_notes, text_notes}
 use Rattle.lt_script.specs.Machine.{Move, go, under, semicolon, line_move, expected, part_move, step_part, header_move, step_header, or_pass, step_on, State, state, onward, run}
 
@@ -88,18 +88,18 @@ mutual
       ∙ takes_type t (MoreTypes ∷ s) b (types_lexemes ts (a_sign kinds.Close ∷ rest))
       ∙ takes_types ts s (type_notes t b) rest
 
-takes-later : (ts : TypeTrees) (s : List Symbol) (b : List Note) (rest : List Lexeme)
+pub takes_later : (ts : TypeTrees) (s : List Symbol) (b : List Note) (rest : List Lexeme)
     → run (Arguments ∷ s) b (types_lexemes ts (a_sign kinds.CloseSquare ∷ rest)) ≡ run s (arguments ∷ keep_type ∷ later_notes ts b) rest
-takes-later no_types s b rest = refl
-takes-later (type_and t ts) s b rest =
+takes_later no_types s b rest = refl
+takes_later (type_and t ts) s b rest =
     more-arguments t s b (types_lexemes ts (a_sign kinds.CloseSquare ∷ rest))
     ∙ takes_type t (Arguments ∷ s) (keep_type ∷ b) (types_lexemes ts (a_sign kinds.CloseSquare ∷ rest))
-    ∙ takes-later ts s (type_notes t (keep_type ∷ b)) rest
+    ∙ takes_later ts s (type_notes t (keep_type ∷ b)) rest
 
 takes-arguments : (ts : List TypeTree) (s : List Symbol) (b : List Note) (rest : List Lexeme) → IsClear rest → run (Brackets ∷ s) b (arguments_lexemes ts rest) ≡ run s (arguments_notes ts b) rest
 takes-arguments [] s b rest c = no_brackets s b rest c
 takes-arguments (t ∷ ts) s b rest c =
-    takes_type t (Arguments ∷ s) b (types_lexemes (row ts) (a_sign kinds.CloseSquare ∷ rest)) ∙ takes-later (row ts) s (type_notes t b) rest
+    takes_type t (Arguments ∷ s) b (types_lexemes (row ts) (a_sign kinds.CloseSquare ∷ rest)) ∙ takes_later (row ts) s (type_notes t b) rest
 
 -- ---- terms
 
@@ -160,6 +160,28 @@ mutual
       more-terms t s b (terms_lexemes more (a_sign kinds.Close ∷ rest))
       ∙ takes_term t (MoreTerms ∷ s) (apply ∷ b) (terms_lexemes more (a_sign kinds.Close ∷ rest)) (terms_clear more (a_sign kinds.Close ∷ rest) tt)
       ∙ takes_terms more s (term_notes t (apply ∷ b)) rest
+
+-- a term that nothing behind it goes on
+abbrev pub IsClosed : TermText → Type 0
+IsClosed (word c []) = ⊥
+IsClosed t = Unit {0}
+
+pub takes_closed : (t : TermText) (s : List Symbol) (b : List Note) (rest : List Lexeme) → IsClosed t → run (Term ∷ s) b (term_lexemes t rest) ≡ run s (term_notes t b) rest
+takes_closed (word c []) s b rest k = absurd k
+takes_closed (word c (t ∷ ts)) s b rest k =
+    takes_type t (Arguments ∷ s) (constant_name c ∷ b) (types_lexemes (row ts) (a_sign kinds.CloseSquare ∷ rest))
+    ∙ takes_later (row ts) s (type_notes t (constant_name c ∷ b)) rest
+takes_closed (bound x) s b rest k = refl
+takes_closed (free x ty) s b rest k = takes_type ty (CloseFree ∷ s) (free_name x ∷ b) (a_sign kinds.Close ∷ rest)
+takes_closed (lambda x ty t) s b rest k =
+    takes_type ty (Body ∷ CloseLambda ∷ s) (lambda_name x ∷ b) (term_lexemes t (a_sign kinds.Close ∷ rest))
+    ∙ body t (CloseLambda ∷ s) (type_notes ty (lambda_name x ∷ b)) (a_sign kinds.Close ∷ rest)
+    ∙ takes_term t (CloseLambda ∷ s) (keep_type ∷ type_notes ty (lambda_name x ∷ b)) (a_sign kinds.Close ∷ rest) tt
+takes_closed (applied f a more) s b rest k =
+    inside f s b (term_lexemes a (terms_lexemes more (a_sign kinds.Close ∷ rest)))
+    ∙ takes_term f (Term ∷ MoreTerms ∷ s) b (term_lexemes a (terms_lexemes more (a_sign kinds.Close ∷ rest))) (term_clear a (terms_lexemes more (a_sign kinds.Close ∷ rest)))
+    ∙ takes_term a (MoreTerms ∷ s) (term_notes f b) (terms_lexemes more (a_sign kinds.Close ∷ rest)) (terms_clear more (a_sign kinds.Close ∷ rest) tt)
+    ∙ takes_terms more s (term_notes a (term_notes f b)) rest
 
 -- ---- rows
 
@@ -239,7 +261,7 @@ first_run first [] = Some (state (Lines ∷ []) [])
 first_run first (w ∷ ws) = onward (first w) (λ m. run m.pushed m.made ws)
 
 begun-part : (h : Form) (k : Head) (ws : List Lexeme) → IsHead h k
-    → first_run (step_part h) (a_name (head_word h k) ∷ ws) ≡ run (expected h.number k) (begin k ∷ []) ws
+    → first_run (step_part h) (a_name (head_word h k) ∷ ws) ≡ run (expected h.number k) [] ws
 begun-part h k ws m =
     ap (λ (o : Option Head). onward (part_move h.number o) (λ m. run m.pushed m.made ws)) (head_found h k m)
 
@@ -247,21 +269,21 @@ pub takes_text : (h : Form) (p : PartText) (rest : List Lexeme) → MayStand h p
     → first_run (step_part h) (text_lexemes h p rest) ≡ run [] (text_notes p []) rest
 takes_text h header rest m =
     begun-part h Header (number h.number ∷ a_sign kinds.Semicolon ∷ rest) tt
-    ∙ takes_number h.number (semicolon ∷ []) (begin Header ∷ []) (a_sign kinds.Semicolon ∷ rest)
+    ∙ takes_number h.number (semicolon ∷ []) [] (a_sign kinds.Semicolon ∷ rest)
 takes_text h (item w ts) rest m =
     begun-part h (Item w) (parts_lexemes (item_row w).parts ts (a_sign kinds.Semicolon ∷ rest)) m
-    ∙ takes_parts (item_row w).parts ts (semicolon ∷ []) (begin (Item w) ∷ []) (a_sign kinds.Semicolon ∷ rest) tt
+    ∙ takes_parts (item_row w).parts ts (semicolon ∷ []) [] (a_sign kinds.Semicolon ∷ rest) tt
 takes_text h (lemma l p lines) rest m =
     begun-part h Lemma (parts_lexemes lemma_parts (l, (tt, (p, tt))) (a_sign kinds.OpenBrace ∷ lines_lexemes lines (a_sign kinds.CloseBrace ∷ a_sign kinds.Semicolon ∷ rest))) m
-    ∙ takes_parts lemma_parts (l, (tt, (p, tt))) (APartOf (Exactly signs.OpenBrace) ∷ Lines ∷ semicolon ∷ []) (begin Lemma ∷ [])
+    ∙ takes_parts lemma_parts (l, (tt, (p, tt))) (APartOf (Exactly signs.OpenBrace) ∷ Lines ∷ semicolon ∷ []) []
     (a_sign kinds.OpenBrace ∷ lines_lexemes lines (a_sign kinds.CloseBrace ∷ a_sign kinds.Semicolon ∷ rest)) tt
-    ∙ takes_lines lines (semicolon ∷ []) (parts_notes lemma_parts (l, (tt, (p, tt))) (begin Lemma ∷ [])) (a_sign kinds.Semicolon ∷ rest)
+    ∙ takes_lines lines (semicolon ∷ []) (parts_notes lemma_parts (l, (tt, (p, tt))) []) (a_sign kinds.Semicolon ∷ rest)
 takes_text h (command w ts) rest m =
     begun-part h (Command w) (parts_lexemes (command_row w).parts ts (a_sign kinds.Semicolon ∷ rest)) m
-    ∙ takes_parts (command_row w).parts ts (semicolon ∷ []) (begin (Command w) ∷ []) (a_sign kinds.Semicolon ∷ rest) tt
+    ∙ takes_parts (command_row w).parts ts (semicolon ∷ []) [] (a_sign kinds.Semicolon ∷ rest) tt
 
 pub takes_header : (h : Form) (rest : List Lexeme)
-    → first_run (step_header h) (text_lexemes h header rest) ≡ run [] (begin Header ∷ []) rest
+    → first_run (step_header h) (text_lexemes h header rest) ≡ run [] [] rest
 takes_header h rest =
     ap (λ (o : Option Head). onward (header_move h.number o) (λ m. run m.pushed m.made (number h.number ∷ a_sign kinds.Semicolon ∷ rest))) (head_found h Header tt)
-    ∙ takes_number h.number (semicolon ∷ []) (begin Header ∷ []) (a_sign kinds.Semicolon ∷ rest)
+    ∙ takes_number h.number (semicolon ∷ []) [] (a_sign kinds.Semicolon ∷ rest)

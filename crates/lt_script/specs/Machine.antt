@@ -17,7 +17,7 @@ use Rattle.lt_script.specs.declared.symbol.Symbol.TheVariants.{«Type», Constru
 use Rattle.lt_commands.specs.declared.note.Note.{Note}
 use Rattle.lt_script.specs.declared.word.Word.{Word}
 use Rattle.lt_script.specs.declared.word.Word.TheVariants.{Name, Variable as VariableWord, Number as NumberWord, Sign}
-use Rattle.lt_commands.specs.declared.note.Note.TheVariants.{TypeVar as type_var, TypeAlone as type_alone, TypeOpen as type_open, TypeClose as type_close, KeepType as keep_type, ConstantName as constant_name, NoArguments as no_arguments, Arguments as arguments, Bound as bound_name, FreeName as free_name, FreeClose as free_close, LambdaName as lambda_name, LambdaClose as lambda_close, Apply as apply, KeepTerm as keep_term, Label as label, Count as count, Variable as variable, Parameter as parameter, KeepParameters as keep_parameters, BeginLine as begin_line, EndLine as end_line, Begin as begin}
+use Rattle.lt_commands.specs.declared.note.Note.TheVariants.{TypeVar as type_var, TypeAlone as type_alone, TypeOpen as type_open, TypeClose as type_close, KeepType as keep_type, ConstantName as constant_name, NoArguments as no_arguments, Arguments as arguments, Bound as bound_name, FreeName as free_name, FreeClose as free_close, LambdaName as lambda_name, LambdaClose as lambda_close, Apply as apply, KeepTerm as keep_term, Label as label, Count as count, Variable as variable, Parameter as parameter, KeepParameters as keep_parameters, BeginLine as begin_line, EndLine as end_line}
 
 -- what is expected in place of a symbol, and what is noted
 pub record Move : Type 0 where
@@ -161,7 +161,7 @@ expected n (Command w) = map APartOf (command_row w).parts ++ semicolon ∷ []
 -- what the word of a sentence makes of nothing
 abbrev pub part_move : ℕ → Option Head → Option Move
 part_move n None = None
-part_move n (Some k) = go (expected n k) (begin k ∷ [])
+part_move n (Some k) = go (expected n k) []
 
 -- the same of what stands where a sentence of a text of the form may begin
 abbrev pub step_part : Form → Lexeme → Option Move

@@ -1,7 +1,7 @@
 -- What the reader promises, in the words of the definitions of texts.
 use Rattle.lt_texts.specs.Texts.{Left}
 use Rattle.lt_texts.specs.Forms.{Form}
-use Rattle.lt_texts.specs.WrongPlaces.{Wrong, bad_header, bad_command, bad_syntax, bad_byte, bad_char, FailsAt, HeaderFailsAt}
+use Rattle.lt_texts.specs.WrongPlaces.{TypeFailsAt, TermFailsAt, Wrong, bad_header, bad_command, bad_syntax, bad_byte, bad_char, FailsAt, HeaderFailsAt}
 use Rattle.lt_script.specs.declared.read_error.ReadError.{ReadError}
 use Rattle.lt_script.specs.declared.read_error.ReadError.TheVariants.{BadHeader, BadCommand, Syntax, BadByte, BadChar, Memory}
 
@@ -23,3 +23,12 @@ Refuses f s e = FailsAt f s (as_wrong e)
 abbrev pub RefusesHeader : Form → Left → ReadError → Type 0
 RefusesHeader f s Memory = Unit {0}
 RefusesHeader f s e = HeaderFailsAt f s (as_wrong e)
+
+-- What stands there begins no type, or no term, as the error says.
+abbrev pub RefusesType : Left → ReadError → Type 0
+RefusesType s Memory = Unit {0}
+RefusesType s e = TypeFailsAt s (as_wrong e)
+
+abbrev pub RefusesTerm : Left → ReadError → Type 0
+RefusesTerm s Memory = Unit {0}
+RefusesTerm s e = TermFailsAt s (as_wrong e)

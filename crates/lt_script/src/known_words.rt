@@ -1,6 +1,7 @@
 //! The words of a text, each with the name that was made for it.
-ghost use Rattle.std.specs.Prelude.{◌≡◌, true, chars, IfOk, MatchOption, ⊤};
+ghost use Rattle.std.specs.Prelude.{◌≡◌, true, chars, IfOk};
 ghost use Rattle.lt_definitions.specs.Characters.{is_name};
+ghost use Rattle.lt_script.specs.Words.{IsFound};
 
 use lt_types::{Memory, Name, TryCopy};
 use std::alloc::Global;
@@ -13,6 +14,13 @@ use std::alloc::Global;
 pub struct KnownWords {
     names: Vec<Name>,
     slots: Vec<usize>,
+}
+
+/// Where the search for a word ends: at its name, or at a slot that is free.
+#[derive(Clone, Copy, Debug)]
+pub enum Found<'a> {
+    Known(&'a Name),
+    Free(usize),
 }
 
 impl KnownWords {
@@ -29,46 +37,32 @@ impl KnownWords {
         requires { is_name (chars text.now) ≡ true }
         ensures { IfOk result (λ n. n ≡ chars text.now) }
     {
-        let slot = self.slot_of(text);
-        match self.known(slot, text) {
-            Some(name) => Ok(name.copy(alloc)?),
-            None => Ok(self.add(alloc, slot, text)?),
+        match self.find(text) {
+            Found::Known(name) => Ok(name.copy(alloc)?),
+            Found::Free(slot) => Ok(self.add(alloc, slot, text)?),
         }
     }
 
-    /// The name of that text, if it stands in this slot.
-    fn known(&self, slot: usize, text: &str) -> Option<&Name>
-        ensures { MatchOption result ⊤ (λ n. n.now ≡ chars text.now) }
+    /// The text's name, or the slot in which it is to stand.
+    fn find(&self, text: &str) -> Found<'_>
+        ensures { IsFound text.now result }
     {
-        let place = *self.slots.get(slot)?;
-        let name = self.names.get(place.wrapping_sub(1))?;
-        if name.text() == text {
-            Some(name)
-        } else {
-            None
-        }
-    }
-
-    /// The slot in which the text stands, or else one that is free.
-    fn slot_of(&self, text: &str) -> usize {
         let count = self.slots.len();
         let last = count.wrapping_sub(1);
         let mut slot = hash(text) & last;
         for _ in 0..count {
-            if self.ends_at(slot, text) {
-                return slot;
+            let Some(place) = self.slots.get(slot) else {
+                return Found::Free(slot);
+            };
+            let Some(name) = self.names.get(place.wrapping_sub(1)) else {
+                return Found::Free(slot);
+            };
+            if name.text() == text {
+                return Found::Known(name);
             }
             slot = slot.wrapping_add(1) & last;
         }
-        slot
-    }
-
-    /// Whether the search for the text ends at this slot.
-    fn ends_at(&self, slot: usize, text: &str) -> bool {
-        match self.slots.get(slot) {
-            Some(0) | None => true,
-            Some(_) => self.known(slot, text).is_some(),
-        }
+        Found::Free(slot)
     }
 
     /// Adds a text that doesn't stand there, and answers its name.
@@ -105,9 +99,10 @@ impl KnownWords {
         let Some(name) = self.names.get(place) else {
             return;
         };
-        let slot = self.slot_of(name.text());
-        if let Some(free) = self.slots.get_mut(slot) {
-            *free = place.wrapping_add(1);
+        if let Found::Free(slot) = self.find(name.text()) {
+            if let Some(free) = self.slots.get_mut(slot) {
+                *free = place.wrapping_add(1);
+            }
         }
     }
 }

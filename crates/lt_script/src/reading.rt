@@ -1,22 +1,22 @@
 //! Reads what begins a sentence, and what stands behind its word.
-ghost use Rattle.std.specs.Prelude.{◌≡◌, [], ◌∷◌, List, IfOk, IfErr, true, length, chars, drop};
+ghost use Rattle.std.specs.Prelude.{◌≡◌, [], List, reverse, IfOk, IfErr, true, length, chars, drop};
 ghost use Rattle.lt_texts.specs.Lexemes.{lexeme};
 ghost use Rattle.lt_texts.specs.Slices.{IsSlice, bytes_of};
 ghost use Rattle.lt_texts.specs.Spelling.{is_spelt, is_type_variable};
 ghost use Rattle.lt_texts.specs.Texts.{here};
 ghost use Rattle.lt_commands.specs.declared.note.Note.{Note};
-ghost use Rattle.lt_commands.specs.declared.note.Note.TheVariants.{Begin};
 ghost use Rattle.lt_commands.specs.Making.{nothing, put_all};
 ghost use Rattle.lt_commands.specs.Views.{made_of};
 ghost use Rattle.lt_script.specs.Machine.{meant, expected};
 ghost use Rattle.lt_script.specs.Marks.{ReadsLines};
 ghost use Rattle.lt_script.specs.Openings.{form_of};
-ghost use Rattle.lt_script.specs.Stops.{IsStopped, SaysNext, Heads, call_of};
+ghost use Rattle.lt_script.specs.Stops.{IsWaiting, IsStopped, SaysNext, Heads, call_of};
 
 use crate::expecting::expect_head;
 use crate::form::{Allowed, Opening};
 use crate::known_words::KnownWords;
 use crate::read_error::ReadError;
+use crate::symbol::Symbol;
 use crate::table::head_of;
 use crate::taking::take;
 use crate::word::Word;
@@ -93,15 +93,36 @@ pub(crate) fn read(
 ) -> Result<Behind, ReadError>
     requires { end ≡ length lexer.old.source }
     ensures read { IfOk result (λ r. (b : List Note)
-        × ReadsLines (expected number head) (Begin head ∷ []) lexer.old b r.places.items lexer.new
+        × ReadsLines (expected number head) [] lexer.old b r.places.items lexer.new
         × (made_of r.maker ≡ put_all b nothing) × (r.to ≡ here lexer.new)) }
     ensures wrong { IfErr result
-        (λ e. IsStopped (expected number head) (Begin head ∷ []) (call_of head) lexer.old e) }
+        (λ e. IsStopped (expected number head) [] (call_of head) lexer.old e) }
 {
     let mut stack = Vec::new(alloc);
+    expect_head(&mut stack, number, head)?;
+    read_from(alloc, words, lexer, end, stack, head)
+}
+
+/// What stands next, from a stack of expectations on. A wrong place is called by the head.
+pub(crate) fn read_from(
+    alloc: Global,
+    words: &mut KnownWords,
+    lexer: &mut Lexer<'_>,
+    end: usize,
+    symbols: Vec<Symbol>,
+    head: Head,
+) -> Result<Behind, ReadError>
+    requires end { end ≡ length lexer.old.source }
+    requires waits { IsWaiting (reverse symbols.items) }
+    ensures read { IfOk result (λ r. (b : List Note)
+        × ReadsLines (reverse symbols.items) [] lexer.old b r.places.items lexer.new
+        × (made_of r.maker ≡ put_all b nothing) × (r.to ≡ here lexer.new)) }
+    ensures wrong { IfErr result
+        (λ e. IsStopped (reverse symbols.items) [] (call_of head) lexer.old e) }
+{
+    let mut stack = symbols;
     let mut maker = Maker::new(alloc);
     let mut places = Vec::new(alloc);
-    expect_head(&mut stack, number, head)?;
     'words: loop {
         let token = match lexer.next_token() {
             Lexed::Token(token) => token,
@@ -111,7 +132,7 @@ pub(crate) fn read(
         };
         let word = word_of(alloc, words, lexer, token)?;
         if !take(alloc, &mut stack, &mut maker, &mut places, word, token.from)? {
-            return Err(wrong_at(head, token.from));
+            return Err(refused_at(head, token));
         }
         if stack.is_empty() {
             return Ok(Behind {
@@ -131,6 +152,13 @@ pub fn wrong_at(head: Head, at: usize) -> ReadError
         Head::Header => ReadError::BadHeader(at),
         _ => ReadError::Syntax(at),
     }
+}
+
+/// What a token that isn't taken behind the word of a sentence is, at its begin.
+fn refused_at(head: Head, token: Token) -> ReadError
+    ensures { result ≡ call_of head token.from }
+{
+    wrong_at(head, token.from)
 }
 
 /// The word that a token is.

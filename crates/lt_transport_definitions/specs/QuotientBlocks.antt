@@ -15,7 +15,6 @@ use Rattle.lt_transport_definitions.specs.Answers.{wrong_where}
 use Rattle.lt_transport_definitions.specs.Forms.{constructor_name, correspondence_form}
 use Rattle.lt_transport_definitions.specs.Sessions.{Four, QuotientEntry, constant_name, constant_types_of}
 use Rattle.lt_transport_definitions.specs.Commands.{CommandRefusal, because, Addition, Registration, corr_registered, property_registered, domain_registered, rule_registered, quotient_registered}
-use Rattle.lt_transport_definitions.specs.Labels.{corr_name, right_total_label, right_unique_label, rel_label, domain_label}
 use Rattle.lt_transport_definitions.specs.Rows.{lemma_of}
 
 -- What a quotient's theorem says: the raw and the abstract type, and the four terms.
@@ -100,11 +99,11 @@ self_related raw R = lambda "x" raw λ x. R · x · x
 -- The lemmas of a tail block, given what its domain is.
 abbrev pub tail_block : QuotientEntry → WithType → List Addition
 tail_block e domain = let T : WithType = e.four.corr in
-    lemma_of (right_total_label e.con) (apply "right_total" (T ∷ []))
-    ∷ lemma_of (right_unique_label e.con) (apply "right_unique" (T ∷ []))
-    ∷ lemma_of (rel_label e.con)
+    lemma_of (e.con ++ codes "_right_total") (apply "right_total" (T ∷ []))
+    ∷ lemma_of (e.con ++ codes "_right_unique") (apply "right_unique" (T ∷ []))
+    ∷ lemma_of (e.con ++ codes "_rel")
     (rel_fun T (rel_fun T (equality_at bool)) · e.four.rel · equality_at e.abs_type)
-    ∷ lemma_of (domain_label e.con) (domainp T ≐ domain) ∷ []
+    ∷ lemma_of (e.con ++ codes "_domain") (domainp T ≐ domain) ∷ []
 
 -- a property of the correspondence, by a lemma without premises
 abbrev pub corr_property : Chars → Property → QuotientEntry → Registration
@@ -118,11 +117,11 @@ abbrev pub tail_registrations : QuotientEntry → Correspondence → WithType �
 tail_registrations e d domain =
     corr_registered d
     ∷ quotient_registered e
-    ∷ corr_property (right_total_label e.con) (codes "right_total") e
-    ∷ corr_property (right_unique_label e.con) (codes "right_unique") e
-    ∷ rule_registered (rel_label e.con)
+    ∷ corr_property (e.con ++ codes "_right_total") (codes "right_total") e
+    ∷ corr_property (e.con ++ codes "_right_unique") (codes "right_unique") e
+    ∷ rule_registered (e.con ++ codes "_rel")
     ∷ domain_registered (record {
-      label = domain_label e.con;
+      label = e.con ++ codes "_domain";
       head = constant_name e.four.corr.term;
       variables = [];
       type_arguments = types_names (row (constant_types_of e.four.corr.term));
@@ -133,7 +132,7 @@ tail_registrations e d domain =
 abbrev pub new_corr : QuotientEntry → Correspondence
 new_corr e =
     record {
-      name = corr_name e.con;
+      name = codes "cr_" ++ e.con;
       raw = e.raw_type;
       con = e.con;
       parameters = type_variables e.abs_type;

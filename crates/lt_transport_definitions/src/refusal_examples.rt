@@ -1,10 +1,9 @@
 //! Each refusal of each command once, but those of a search and of reduction.
-ghost use Rattle.std.specs.Prelude.{◌≡◌, [], ◌∷◌, ◌++◌, Ok, Err, codes};
+ghost use Rattle.std.specs.Prelude.{[], ◌∷◌, ◌++◌, Err, codes};
 ghost use Rattle.lt_definitions.specs.Types.{bool};
-ghost use Rattle.lt_definitions.specs.Terms.{TermTree, falsity, free_variable};
+ghost use Rattle.lt_definitions.specs.Terms.{falsity};
 ghost use Rattle.lt_definitions.specs.Theory.{duplicate, open_term, loose_type_var, typedef_shape};
-ghost use Rattle.lt_definitions.specs.Samples.{nat, con, con_at, app, x, tyvar, type_of_args, all_equal};
-ghost use Rattle.lt_transport_definitions.specs.Reduction.{as_printed};
+ghost use Rattle.lt_definitions.specs.Samples.{nat, con, con_at, x, tyvar, type_of_args, all_equal};
 ghost use Rattle.lt_texts.specs.Commands.{property_command, domain_command, rule_command, lifting_command, lifting_typedef_command, quotient_type_command, lift_command, parametric_command, param_rule_command, equiv_command, implies_command, carry_command, abs_eq_command, rep_eq_command};
 ghost use Rattle.lt_transport_definitions.specs.Commands.{as_item, because};
 ghost use Rattle.lt_transport_definitions.specs.ParamRows.{not_parametric};

@@ -1,5 +1,5 @@
 -- A session in step gives one in step.
-use Rattle.std.specs.Prelude.{◌≡◌, ◌⊎◌, List, [], ◌∷◌, ◌++◌, ◌&&◌, Option, Some, None, map, fold, option_map, option_to_list, is_some}
+use Rattle.std.specs.Prelude.{◌≡◌, ◌⊎◌, List, [], ◌∷◌, ◌++◌, ◌&&◌, Option, Some, None, map, fold, option_map, option_to_list, is_some, codes}
 use Rattle.std.specs.List.{flat_map}
 use Rattle.std.proofs.Common.{refl, subst, sym, ap, ◌∙◌, inl, inr}
 use Rattle.lt_definitions.specs.Types.{Chars, same_name, TypeTree}
@@ -13,11 +13,11 @@ use Rattle.lt_transport_definitions.specs.Sessions.{Four, QuotientEntry, Session
 use Rattle.lt_texts.specs.Commands.{Command, item_command, law_command, corr_command, relator_command, property_command, domain_command, rule_command, lifting_command, lifting_typedef_command, quotient_type_command, lift_command, parametric_command, param_rule_command, equiv_command, implies_command, carry_command, abs_eq_command, rep_eq_command}
 use Rattle.lt_transport_definitions.specs.Commands.{Addition, this_item, Registration, law_registered, corr_registered, relator_registered, form_registered, property_registered, domain_registered, rule_registered, quotient_registered, lifted_registered, transport_registered, Block, with_addition, with_registration, session_behind}
 use Rattle.lt_transport_definitions.specs.QuotientTerms.{four_of}
-use Rattle.lt_transport_definitions.specs.Labels.{transfer_label}
 use Rattle.lt_transport_definitions.specs.Rows.{lemma_of, declared_constant, with_its_type}
 use Rattle.lt_transport_definitions.specs.LiftRows.{adds_lifted}
 use Rattle.lt_transport_definitions.specs.Parts.{tests_before}
-use Rattle.lt_transport_definitions.specs.Blocks.{row_of, ComesOfRow}
+use Rattle.lt_transport_definitions.specs.Table.{row_of}
+use Rattle.lt_transport_definitions.specs.Blocks.{ComesOfRow}
 use Rattle.lt_transport_laws.specs.SessionStatements.{IsStated, AreStated, relator_labels, form_labels, lifted_labels, IsInStep, SessionsStayInStep}
 use Rattle.lt_transport_laws.proofs.RowLemmas.{comes-unless}
 use Rattle.lt_transport_laws.proofs.RowFacts.{EachBlock, comes-block}
@@ -264,9 +264,9 @@ lifted-known : (s : Session) (n : Chars) (ty : TypeTree) (t : WithType) (l : Cha
     → EachBlock (Registers s) (adds_lifted s n ty t l four)
 lifted-known s n ty t l four h =
     let transfer : WithType = four.corr · t · declared_constant n ty in
-    let items : List Addition = this_item (def_item n ty ((four.abs · t).term)) ∷ lemma_of (transfer_label n) transfer ∷ [] in (
+    let items : List Addition = this_item (def_item n ty ((four.abs · t).term)) ∷ lemma_of (n ++ codes "_transfer") transfer ∷ [] in (
       (inr (inl refl), (inl h, (inr (inr (inl refl)), tt))),
-      optional-rule s items (transfer_label n) (value_of (rule_form (signature_of s) s.registry (transfer_label n) transfer.term)) (inr (inr (inl refl))),
+      optional-rule s items (n ++ codes "_transfer") (value_of (rule_form (signature_of s) s.registry (n ++ codes "_transfer") transfer.term)) (inr (inr (inl refl))),
     )
 
 in-rows : (s : Session) (c : Command) → EachBlock (Registers s) (row_of s c)

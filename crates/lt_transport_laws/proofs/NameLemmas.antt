@@ -4,7 +4,8 @@ use Rattle.lt_transport_definitions.specs.Sessions.{Session}
 use Rattle.lt_texts.specs.Commands.{Command, item_command, law_command, corr_command, relator_command, property_command, domain_command, rule_command, lifting_command, lifting_typedef_command, quotient_type_command, lift_command, parametric_command, param_rule_command, equiv_command, implies_command, carry_command, abs_eq_command, rep_eq_command}
 use Rattle.lt_transport_definitions.specs.Commands.{Addition, item_of}
 use Rattle.lt_transport_definitions.specs.Parts.{tests_before, names_added}
-use Rattle.lt_transport_definitions.specs.Blocks.{row_of, ComesOfRow}
+use Rattle.lt_transport_definitions.specs.Table.{row_of}
+use Rattle.lt_transport_definitions.specs.Blocks.{ComesOfRow}
 use Rattle.std.proofs.Common.{◌≡◌, false, List, refl}
 use Rattle.std.specs.List.{flat_map}
 use Rattle.lt_transport_laws.specs.Statements.{names_of_item, tests_own_names, NamesAreAdded}

@@ -33,7 +33,8 @@ use Rattle.lt_transport_definitions.specs.Parts.{tests_before}
 use Rattle.lt_transport_definitions.specs.QuotientBlocks.{QuotientTheorem, four_between, as_quotient, is_in_order, quotient_test}
 use Rattle.lt_transport_definitions.specs.QuotientRows.{raw_of, typedef_entry, adds_typedef_quotient, is_relation_on_one, class_entry, adds_class_quotient}
 use Rattle.lt_transport_definitions.specs.Rows.{Row, adds, with_its_type}
-use Rattle.lt_transport_definitions.specs.Blocks.{row_of, ComesOfRow}
+use Rattle.lt_transport_definitions.specs.Table.{row_of}
+use Rattle.lt_transport_definitions.specs.Blocks.{ComesOfRow}
 use Rattle.lt_transport_laws.specs.QuotientStatements.{IsInOrder, AreInOrder}
 use Rattle.lt_transport_laws.specs.OrderStatements.{AreAlphaEqualContexts, IsTypedefInOrder, AreTypedefsInOrder, IsOrderedSession, NewSessionsAreOrdered, SessionsStayOrdered, SessionsHaveQuotients}
 use Rattle.lt_transport_laws.proofs.AlphaItemLemmas.{same-statements, valid-alpha, IsAlikeItemOf, AreAlikeItemsOf, items-alike}

@@ -17,7 +17,8 @@ use Rattle.lt_transport_definitions.specs.Sessions.{Session, signature_of}
 use Rattle.lt_texts.specs.Commands.{Command, item_command, law_command, corr_command, relator_command, property_command, domain_command, rule_command, lifting_command, lifting_typedef_command, quotient_type_command, lift_command, parametric_command, param_rule_command, equiv_command, implies_command, carry_command, abs_eq_command, rep_eq_command}
 use Rattle.lt_transport_definitions.specs.Commands.{CommandRefusal, as_item, rule_registered, Block, with_registration, session_behind}
 use Rattle.lt_transport_definitions.specs.Parts.{tests_before}
-use Rattle.lt_transport_definitions.specs.Blocks.{row_of, ComesOfRow}
+use Rattle.lt_transport_definitions.specs.Table.{row_of}
+use Rattle.lt_transport_definitions.specs.Blocks.{ComesOfRow}
 use Rattle.lt_transport_laws.specs.SessionStatements.{RegistriesStaySound}
 use Rattle.lt_transport_laws.proofs.RowLemmas.{comes-unless}
 use Rattle.lt_transport_laws.proofs.RowFacts.{EachBlock, comes-block}

@@ -19,7 +19,7 @@ use Rattle.lt_texts.specs.Commands.{Command, item_command, law_command, corr_com
 use Rattle.lt_transport_definitions.specs.Commands.{Registration, law_registered, corr_registered, relator_registered, form_registered, property_registered, domain_registered, rule_registered, quotient_registered, lifted_registered, transport_registered, Block, with_registration}
 use Rattle.lt_transport_definitions.specs.QuotientBlocks.{QuotientTheorem, as_quotient, self_related}
 use Rattle.lt_transport_definitions.specs.QuotientRows.{is_relation_on_one}
-use Rattle.lt_transport_definitions.specs.Blocks.{row_of}
+use Rattle.lt_transport_definitions.specs.Table.{row_of}
 use Rattle.lt_transport_laws.specs.SessionStatements.{AreScopedDomains}
 use Rattle.lt_transport_laws.specs.OrderStatements.{IsOrderedSession}
 use Rattle.lt_transport_laws.proofs.LooseNames.{head-none, argument-none}

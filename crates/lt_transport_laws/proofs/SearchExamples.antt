@@ -87,11 +87,11 @@ unfolding digits solved_true
 least-solution = (solved_true, least-true, refl, refl)
 
 -- the first of the lists of a length
-abbrev zeros : ℕ → List ℕ
+abbrev pub zeros : ℕ → List ℕ
 zeros zero = []
 zeros (suc n) = 0 ∷ zeros n
 
-zeros-first : (n : ℕ) (others : List ℕ) → length others ≡ n → (zeros n ≡ others) ⊎ IsBefore (zeros n) others
+pub zeros-first : (n : ℕ) (others : List ℕ) → length others ≡ n → (zeros n ≡ others) ⊎ IsBefore (zeros n) others
 zeros-first zero [] e = inl refl
 zeros-first zero (x ∷ xs) e = absurd (omega arith)
 zeros-first (suc n) [] e = absurd (omega arith)

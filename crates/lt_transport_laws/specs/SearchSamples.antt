@@ -2,7 +2,9 @@
 -- Source: this project's own.
 use Rattle.std.specs.Prelude.{ℕ, zero, suc, List, [], ◌∷◌, codes}
 use Rattle.lt_definitions.specs.Types.{TypeTree, bool}
-use Rattle.lt_definitions.specs.Terms.{TermTree, abstraction, for_all}
+use Rattle.lt_definitions.specs.Terms.{TermTree, bound_name, abstraction, equation, for_all}
+use Rattle.lt_definitions.specs.Typing.{Signature}
+use Rattle.lt_definitions.specs.Items.{Item, const_item, axiom_item}
 use Rattle.lt_definitions.specs.Samples.{tyvar, type_of_args, con, con_at, app, implication}
 use Rattle.lt_transport_definitions.specs.Relations.{relation_variable, equality, built_in_registry}
 use Rattle.lt_transport_definitions.specs.Expressions.{function_relator, implication as implied_by}
@@ -77,3 +79,42 @@ question_q = record {
 abbrev pub nots : ℕ → TermTree
 nots zero = con "false"
 nots (suc k) = app (con "not") (nots k)
+
+-- equality between a term and q, as a rule
+abbrev pub rule_by : TermTree → TransferRule
+rule_by raw = record {
+  label = codes "bq";
+  variables = [];
+  sides = [];
+  relation = equality bool;
+  raw = raw;
+  constant = codes "q";
+  pattern = [];
+}
+
+-- which image q is equal to by that rule
+abbrev pub question_by : Signature → TermTree → Question
+question_by sig raw = record {
+  signature = sig;
+  registry = built_in_registry;
+  rules = rule_by raw ∷ [];
+  statement = con "q";
+  top = equal;
+}
+
+-- a session with that rule
+abbrev pub given_items : TermTree → List Item
+given_items raw =
+    const_item (codes "q") bool ∷ axiom_item (codes "bq") (equation bool raw (con "q")) ∷ []
+
+abbrev pub over_given : TermTree → Session
+over_given raw = with_registration (session_over (given_items raw)) (rule_registered (codes "bq"))
+
+-- and x (and x .. x), where x is bound
+abbrev pub ands : ℕ → TermTree
+ands zero = bound_name (codes "x")
+ands (suc k) = app (app (con "and") (bound_name (codes "x"))) (ands k)
+
+-- a redex that puts a large term for each of these
+abbrev pub redex : TermTree
+redex = app (abstraction (codes "x") bool (ands 25)) (nots 1900)

@@ -4,7 +4,7 @@ ghost use Rattle.lt_definitions.specs.Terms.{implies};
 ghost use Rattle.lt_definitions.specs.Samples.{con, app};
 ghost use Rattle.lt_texts.specs.Commands.{equiv_command};
 ghost use Rattle.lt_transport_definitions.specs.Relations.{equality};
-ghost use Rattle.lt_transport_definitions.specs.Search.{Solution, IsWhole, IsLeast, IsAnswer, HasVisits, HasMoreVisits, equal, relations_of, image_by};
+ghost use Rattle.lt_transport_definitions.specs.Search.{Solution, IsWhole, IsLeast, IsAnswer, HasVisits, equal, relations_of, image_by};
 ghost use Rattle.lt_transport_definitions.specs.SearchAnswers.{IsSearchLimit};
 ghost use Rattle.lt_transport_definitions.specs.Reduction.{Steps, IsNormalForm};
 ghost use Rattle.lt_transport_definitions.specs.Commands.{because};
@@ -12,7 +12,7 @@ ghost use Rattle.lt_transport_definitions.specs.TransportRows.{question_of};
 ghost use Rattle.lt_transport_definitions.specs.Blocks.{ComesOf};
 ghost use Rattle.lt_transport_definitions.specs.Samples.{IsReached, over_related, statement_s_z, question_s_z, redex_at_p};
 ghost use Rattle.lt_transport_laws.specs.BoundedSamples.{over_bounded, all_k, question_bounded};
-ghost use Rattle.lt_transport_laws.specs.SearchSamples.{int, always_true, question_true, first_choices, over_implied, nots};
+ghost use Rattle.lt_transport_laws.specs.SearchSamples.{int, always_true, question_true, first_choices, over_implied, nots, over_given, redex};
 
 /// The statement `s z` has a solution by the first candidates, and its image is `p a`.
 pub fn a_solution()
@@ -36,6 +36,16 @@ pub fn refusals_of_searches()
         (Err (because "NoTransport" [])) }
     ensures large { ComesOf over_related (equiv_command (codes "e") (nots 2048))
         (Err (because "TooLarge" (codes "4097" ∷ []))) }
+{}
+
+/// An image with too many nodes, and one of which a step makes a term with too many.
+pub fn refusals_of_images()
+    ensures reached { IsReached (over_given (nots 2048)) }
+    ensures reached_redex { IsReached (over_given redex) }
+    ensures large { ComesOf (over_given (nots 2048)) (equiv_command (codes "e") (con "q"))
+        (Err (because "TooLarge" (codes "4097" ∷ []))) }
+    ensures limit { ComesOf (over_given redex) (equiv_command (codes "e") (con "q"))
+        (Err (because "NormLimit" (codes "1" ∷ []))) }
 {}
 
 /// The search for the image of `all x. k x`, over a typedef with a lifted predicate and three rules

@@ -25,7 +25,8 @@ use Rattle.lt_transport_definitions.specs.Commands.{because, Addition, item_of, 
 use Rattle.lt_transport_definitions.specs.Rows.{BlockOutcome, Row, ◌⊳◌, with_value, with_form, with_quotient, with_image, with_normal_form, adds}
 use Rattle.lt_transport_definitions.specs.Parts.{tests_before}
 use Rattle.lt_transport_definitions.specs.Reports.{printed_refusal}
-use Rattle.lt_transport_definitions.specs.Blocks.{no_quotient, row_of}
+use Rattle.lt_transport_definitions.specs.Table.{row_of}
+use Rattle.lt_transport_definitions.specs.Blocks.{no_quotient}
 
 -- quotients of arguments
 abbrev pub quots_by : (TypeTree → TypeTree → Quot) → TypeTrees → TypeTrees → Quots

@@ -1,8 +1,7 @@
 -- Headers are passed over; then a command, the end or a wrong place.
-use Rattle.std.proofs.Common.{ℕ, ◌∙◌, ap, sym, subst, List, [], ◌∷◌, length, arith}
+use Rattle.std.proofs.Common.{ℕ, ◌∙◌, ap, sym, subst, List, [], length, arith}
 use Rattle.lt_texts.specs.CommandPlaces.{NextPlaced}
 use Rattle.lt_commands.specs.Views.{command_of}
-use Rattle.lt_commands.specs.declared.note.Note.TheVariants.{Begin}
 use Rattle.lt_commands.specs.Making.{command_made}
 use Rattle.lt_script.specs.declared.reading.Next.TheVariants.{Begins, Other, BadByte as NoByte, BadChar as NoChar}
 use Rattle.lt_script.specs.Machine.{expected}
@@ -21,7 +20,7 @@ pub unreachable-requires : goal.unreachable-requires
 unreachable-requires c =
     let n : SaysNext (form_of c.args.opening.now c.args.allowed) c.parts.lexer c.next_head.new.lexer (Begins c.in-Begins.head c.in-Begins.from) = rw c.in-Begins.is at c.in_ok-next_head.ensures.next in
     never_none (form_of c.args.opening.now c.args.allowed) c.args.lexer.now c.parts.lexer c.next_head.new.lexer c.read.new.lexer c.in-Begins.head c.in-Begins.from c.in-Ok.ensures.read.0 c.command.result n
-    (unmarked (expected c.args.opening.now.number c.in-Begins.head) (Begin c.in-Begins.head ∷ []) c.in-Ok.ensures.read.0 c.next_head.new.lexer c.read.new.lexer c.in-Ok.behind.places.items c.in-Ok.ensures.read.1) (sym c.is_header.ensures ∙ c.if-not-is_header.true) (c.command.ensures ∙ ap (command_made c.in-Begins.head) c.in-Ok.ensures.read.2) c.in_default.is
+    (unmarked (expected c.args.opening.now.number c.in-Begins.head) [] c.in-Ok.ensures.read.0 c.next_head.new.lexer c.read.new.lexer c.in-Ok.behind.places.items c.in-Ok.ensures.read.1) (sym c.is_header.ensures ∙ c.if-not-is_header.true) (c.command.ensures ∙ ap (command_made c.in-Begins.head) c.in-Ok.ensures.read.2) c.in_default.is
 
 pub returns-then-not-is_header-clause-command : goal.returns-then-not-is_header-clause-command
 returns-then-not-is_header-clause-command c =
@@ -37,13 +36,13 @@ returns-then-not-is_header-clause-shorter c =
       arith,
       c.parts.invariant.later,
       begun_shorter (form_of c.args.opening.now c.args.allowed) c.parts.lexer c.next_head.new.lexer c.in-Begins.head c.in-Begins.from n,
-      read_no_longer (expected c.args.opening.now.number c.in-Begins.head) (Begin c.in-Begins.head ∷ []) c.in-Ok.ensures.read.0 c.next_head.new.lexer c.read.new.lexer (unmarked (expected c.args.opening.now.number c.in-Begins.head) (Begin c.in-Begins.head ∷ []) c.in-Ok.ensures.read.0 c.next_head.new.lexer c.read.new.lexer c.in-Ok.behind.places.items c.in-Ok.ensures.read.1),
+      read_no_longer (expected c.args.opening.now.number c.in-Begins.head) [] c.in-Ok.ensures.read.0 c.next_head.new.lexer c.read.new.lexer (unmarked (expected c.args.opening.now.number c.in-Begins.head) [] c.in-Ok.ensures.read.0 c.next_head.new.lexer c.read.new.lexer c.in-Ok.behind.places.items c.in-Ok.ensures.read.1),
     )
 
 pub returns-then-not-is_header-clause-source : goal.returns-then-not-is_header-clause-source
 returns-then-not-is_header-clause-source c =
     let n : SaysNext (form_of c.args.opening.now c.args.allowed) c.parts.lexer c.next_head.new.lexer (Begins c.in-Begins.head c.in-Begins.from) = rw c.in-Begins.is at c.in_ok-next_head.ensures.next in
-    c.parts.invariant.end ∙ sym (ap length (read_source (expected c.args.opening.now.number c.in-Begins.head) (Begin c.in-Begins.head ∷ []) c.in-Ok.ensures.read.0 c.next_head.new.lexer c.read.new.lexer (unmarked (expected c.args.opening.now.number c.in-Begins.head) (Begin c.in-Begins.head ∷ []) c.in-Ok.ensures.read.0 c.next_head.new.lexer c.read.new.lexer c.in-Ok.behind.places.items c.in-Ok.ensures.read.1)
+    c.parts.invariant.end ∙ sym (ap length (read_source (expected c.args.opening.now.number c.in-Begins.head) [] c.in-Ok.ensures.read.0 c.next_head.new.lexer c.read.new.lexer (unmarked (expected c.args.opening.now.number c.in-Begins.head) [] c.in-Ok.ensures.read.0 c.next_head.new.lexer c.read.new.lexer c.in-Ok.behind.places.items c.in-Ok.ensures.read.1)
     ∙ begun_source (form_of c.args.opening.now c.args.allowed) c.parts.lexer c.next_head.new.lexer c.in-Begins.head c.in-Begins.from n))
 
 pub parts-smaller : goal.parts-smaller
@@ -52,7 +51,7 @@ parts-smaller c =
     omega (
       arith,
       begun_shorter (form_of c.args.opening.now c.args.allowed) c.parts.lexer c.next_head.new.lexer c.in-Begins.head c.in-Begins.from n,
-      read_no_longer (expected c.args.opening.now.number c.in-Begins.head) (Begin c.in-Begins.head ∷ []) c.in-Ok.ensures.read.0 c.next_head.new.lexer c.read.new.lexer (unmarked (expected c.args.opening.now.number c.in-Begins.head) (Begin c.in-Begins.head ∷ []) c.in-Ok.ensures.read.0 c.next_head.new.lexer c.read.new.lexer c.in-Ok.behind.places.items c.in-Ok.ensures.read.1),
+      read_no_longer (expected c.args.opening.now.number c.in-Begins.head) [] c.in-Ok.ensures.read.0 c.next_head.new.lexer c.read.new.lexer (unmarked (expected c.args.opening.now.number c.in-Begins.head) [] c.in-Ok.ensures.read.0 c.next_head.new.lexer c.read.new.lexer c.in-Ok.behind.places.items c.in-Ok.ensures.read.1),
     )
 
 pub parts-preserved : goal.parts-preserved
@@ -60,14 +59,14 @@ parts-preserved c =
     let n : SaysNext (form_of c.args.opening.now c.args.allowed) c.parts.lexer c.next_head.new.lexer (Begins c.in-Begins.head c.in-Begins.from) = rw c.in-Begins.is at c.in_ok-next_head.ensures.next in
     record {
       past = next_header (form_of c.args.opening.now c.args.allowed) c.args.lexer.now c.parts.lexer c.next_head.new.lexer c.read.new.lexer c.in-Begins.head c.in-Begins.from c.in-Ok.ensures.read.0 c.parts.invariant.past n
-          (unmarked (expected c.args.opening.now.number c.in-Begins.head) (Begin c.in-Begins.head ∷ []) c.in-Ok.ensures.read.0 c.next_head.new.lexer c.read.new.lexer c.in-Ok.behind.places.items c.in-Ok.ensures.read.1) (sym c.is_header.ensures ∙ c.if-not-is_header.false);
-      end = c.parts.invariant.end ∙ sym (ap length (read_source (expected c.args.opening.now.number c.in-Begins.head) (Begin c.in-Begins.head ∷ []) c.in-Ok.ensures.read.0 c.next_head.new.lexer c.read.new.lexer (unmarked (expected c.args.opening.now.number c.in-Begins.head) (Begin c.in-Begins.head ∷ []) c.in-Ok.ensures.read.0 c.next_head.new.lexer c.read.new.lexer c.in-Ok.behind.places.items c.in-Ok.ensures.read.1)
+          (unmarked (expected c.args.opening.now.number c.in-Begins.head) [] c.in-Ok.ensures.read.0 c.next_head.new.lexer c.read.new.lexer c.in-Ok.behind.places.items c.in-Ok.ensures.read.1) (sym c.is_header.ensures ∙ c.if-not-is_header.false);
+      end = c.parts.invariant.end ∙ sym (ap length (read_source (expected c.args.opening.now.number c.in-Begins.head) [] c.in-Ok.ensures.read.0 c.next_head.new.lexer c.read.new.lexer (unmarked (expected c.args.opening.now.number c.in-Begins.head) [] c.in-Ok.ensures.read.0 c.next_head.new.lexer c.read.new.lexer c.in-Ok.behind.places.items c.in-Ok.ensures.read.1)
           ∙ begun_source (form_of c.args.opening.now c.args.allowed) c.parts.lexer c.next_head.new.lexer c.in-Begins.head c.in-Begins.from n));
       later = omega (
         arith,
         c.parts.invariant.later,
         begun_shorter (form_of c.args.opening.now c.args.allowed) c.parts.lexer c.next_head.new.lexer c.in-Begins.head c.in-Begins.from n,
-        read_no_longer (expected c.args.opening.now.number c.in-Begins.head) (Begin c.in-Begins.head ∷ []) c.in-Ok.ensures.read.0 c.next_head.new.lexer c.read.new.lexer (unmarked (expected c.args.opening.now.number c.in-Begins.head) (Begin c.in-Begins.head ∷ []) c.in-Ok.ensures.read.0 c.next_head.new.lexer c.read.new.lexer c.in-Ok.behind.places.items c.in-Ok.ensures.read.1),
+        read_no_longer (expected c.args.opening.now.number c.in-Begins.head) [] c.in-Ok.ensures.read.0 c.next_head.new.lexer c.read.new.lexer (unmarked (expected c.args.opening.now.number c.in-Begins.head) [] c.in-Ok.ensures.read.0 c.next_head.new.lexer c.read.new.lexer c.in-Ok.behind.places.items c.in-Ok.ensures.read.1),
       );
     }
 

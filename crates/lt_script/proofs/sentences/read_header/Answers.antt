@@ -1,9 +1,8 @@
 -- The header stands there, or the first place that is wrong.
-use Rattle.std.proofs.Common.{◌∙◌, ap, sym, [], ◌∷◌, length}
+use Rattle.std.proofs.Common.{◌∙◌, ap, sym, [], length}
 use Rattle.lt_texts.specs.Lexemes.{lexeme}
 use Rattle.lt_texts.specs.Texts.{Left}
 use Rattle.lt_grammar.specs.declared.words.Head.TheVariants.{Header}
-use Rattle.lt_commands.specs.declared.note.Note.TheVariants.{Begin}
 use Rattle.lt_script.specs.Machine.{meant, expected}
 use Rattle.lt_script.specs.Openings.{opened}
 use Rattle.lt_script.proofs.Comes.{after_source}
@@ -31,13 +30,13 @@ pub returns-in-Ok-clause-header : goal.returns-in-Ok-clause-header
 returns-in-Ok-clause-header c = λ commands.
     header_read (opened c.args.opening.now commands) c.args.lexer.now c.next_token.new.self c.read.new.lexer c.in-Token.token (meant c.in_ok-word.word) c.in-Ok.ensures.read.0 c.in-Token.ensures.token c.in-Token.ensures.left (c.in_ok-word.ensures ∙ ap (lexeme c.in-Token.token.kind) c.in-Token.ensures.read.text)
     (sym c.is_opening.ensures ∙ c.if-not-is_opening.false)
-    (unmarked (expected c.args.opening.now.number Header) (Begin Header ∷ []) c.in-Ok.ensures.read.0 c.next_token.new.self c.read.new.lexer c.in-Ok._behind.places.items c.in-Ok.ensures.read.1)
+    (unmarked (expected c.args.opening.now.number Header) [] c.in-Ok.ensures.read.0 c.next_token.new.self c.read.new.lexer c.in-Ok._behind.places.items c.in-Ok.ensures.read.1)
 
 pub returns-in-Ok-clause-source : goal.returns-in-Ok-clause-source
 returns-in-Ok-clause-source c =
     c.requires ∙ sym (ap (λ (x : Left). length x.source) c.in-Token.ensures.left ∙ ap length (after_source c.args.lexer.now))
-    ∙ sym (ap length (read_source (expected c.args.opening.now.number Header) (Begin Header ∷ []) c.in-Ok.ensures.read.0 c.next_token.new.self c.read.new.lexer
-    (unmarked (expected c.args.opening.now.number Header) (Begin Header ∷ []) c.in-Ok.ensures.read.0 c.next_token.new.self c.read.new.lexer c.in-Ok._behind.places.items c.in-Ok.ensures.read.1)))
+    ∙ sym (ap length (read_source (expected c.args.opening.now.number Header) [] c.in-Ok.ensures.read.0 c.next_token.new.self c.read.new.lexer
+    (unmarked (expected c.args.opening.now.number Header) [] c.in-Ok.ensures.read.0 c.next_token.new.self c.read.new.lexer c.in-Ok._behind.places.items c.in-Ok.ensures.read.1)))
 
 pub returns-in-Err-clause-wrong : goal.returns-in-Err-clause-wrong
 returns-in-Err-clause-wrong c = λ commands.
