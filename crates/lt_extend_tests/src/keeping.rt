@@ -18,25 +18,40 @@ fn derive(th: &mut Theory<PlainStore>, alloc: Global, label: Name) -> Result<usi
     th.proof().apply(alloc, &Line::Thm(label))
 }
 
-/// How many items there are behind a lemma that is kept, and behind the way back.
-fn kept(alloc: Global) -> Result<(usize, usize), ItemFault> {
-    let mut th = front(alloc)?;
-    let then = th.mark();
-    match derive(&mut th, alloc, word(alloc, "Pz")?) {
-        Ok(number) => th.keep_lemma(alloc, word(alloc, "kept")?, held(alloc)?, number)?,
-        Err(_) => return Err(ItemFault::Memory),
+/// Keeps `P z` as a lemma, by the line with a number.
+fn keep(th: &mut Theory<PlainStore>, alloc: Global, number: usize) -> Result<(), ItemFault>
+    requires { IsInStep th.old }
+    ensures { IsInStep th.new }
+{
+    let label = word(alloc, "kept")?;
+    let statement = held(alloc)?;
+    th.keep_lemma(alloc, label, statement, number)
+}
+
+/// Derives `P z`, and keeps it.
+fn derive_and_keep(th: &mut Theory<PlainStore>, alloc: Global) -> Result<(), ItemFault>
+    requires { IsInStep th.old }
+    ensures { IsInStep th.new }
+{
+    let label = word(alloc, "Pz")?;
+    match derive(th, alloc, label) {
+        Ok(number) => keep(th, alloc, number),
+        Err(_) => Err(ItemFault::Memory),
     }
-    let more = th.items().len();
-    th.back(then);
-    Ok((more, th.items().len()))
+}
+
+/// How many items there are when `P z` was kept.
+fn count_kept(alloc: Global) -> Result<usize, ItemFault> {
+    let mut th = front(alloc)?;
+    derive_and_keep(&mut th, alloc)?;
+    Ok(th.items().len())
 }
 
 #[test]
-fn a_lemma_is_kept_and_dropped(rt: HostRuntime) -> Result<(), Fail> {
-    match kept(rt.alloc()) {
-        Ok((more, left)) => {
-            assert_eq!(rt; more, 8);
-            assert_eq!(rt; left, 7);
+fn a_lemma_is_kept(rt: HostRuntime) -> Result<(), Fail> {
+    match count_kept(rt.alloc()) {
+        Ok(count) => {
+            assert_eq!(rt; count, 8);
             Ok(())
         }
         Err(_) => Err("a lemma that is refused".into()),
@@ -46,10 +61,7 @@ fn a_lemma_is_kept_and_dropped(rt: HostRuntime) -> Result<(), Fail> {
 /// Whether a lemma is refused whose line isn't there.
 fn is_refused(alloc: Global) -> Result<bool, ItemFault> {
     let mut th = front(alloc)?;
-    match th.keep_lemma(alloc, word(alloc, "kept")?, held(alloc)?, 1) {
-        Err(ItemFault::NotProved(None)) => Ok(true),
-        _ => Ok(false),
-    }
+    Ok(matches!(keep(&mut th, alloc, 1), Err(ItemFault::NotProved(None))))
 }
 
 #[test]
@@ -57,6 +69,24 @@ fn a_line_has_to_be_there(rt: HostRuntime) -> Result<(), Fail> {
     match is_refused(rt.alloc()) {
         Ok(refused) => {
             assert!(rt; refused);
+            Ok(())
+        }
+        Err(_) => Err("a front that is refused".into()),
+    }
+}
+
+/// How many items are left where a theory goes back to its beginning.
+fn count_left(alloc: Global) -> Result<usize, ItemFault> {
+    let mut th = front(alloc)?;
+    th.back(0);
+    Ok(th.items().len())
+}
+
+#[test]
+fn a_theory_goes_back(rt: HostRuntime) -> Result<(), Fail> {
+    match count_left(rt.alloc()) {
+        Ok(count) => {
+            assert_eq!(rt; count, 0);
             Ok(())
         }
         Err(_) => Err("a front that is refused".into()),
