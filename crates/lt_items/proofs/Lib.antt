@@ -1,3 +1,0 @@
-pub mod More
-pub mod Forward
-pub mod Makes

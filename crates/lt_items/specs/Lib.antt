@@ -1,4 +1,0 @@
-pub mod Places
-pub mod Making
-pub mod Parts
-pub mod NextItem

@@ -1,9 +1,0 @@
-pub mod Words
-pub mod Taken
-pub mod Sound
-pub mod Places
-pub mod Names
-pub mod Stacks
-pub mod Comes
-pub mod Parts
-pub mod WholeTexts

@@ -1,4 +1,0 @@
-pub mod Machine
-pub mod Table
-pub mod Notes
-pub mod Reading

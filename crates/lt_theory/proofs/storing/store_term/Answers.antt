@@ -1,5 +1,0 @@
-use Rattle.lt_theory.proofs.StoredLines.{whole-term}
-use Rattle.lt_theory.proofs.storing.store_term.Goals as goal
-
-pub add_term-requires : goal.add_term-requires
-add_term-requires c = whole-term c.signature.result.now c.in_ok-term.term c.in_ok-check_term.ensures
