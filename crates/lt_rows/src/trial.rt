@@ -1,15 +1,19 @@
-//! A row is tried: as it stands, over what never fails, and with each of its reads and writes failing in turn.
+//! A row is tried: as it stands, over what never fails, with the items that are answered read once
+//! more, and with each of its reads and writes failing in turn.
 use crate::row::{Row, RowFault};
+use lt_hol::Items;
 use lt_io::{MemoryLibrary, MemorySink, Name8, SureLibrary, SureSink};
-use lt_run::{Text, lt, lt_sure};
+use lt_run::{Ended, Text, lt, lt_sure};
+use lt_syntax::write_item;
 use std::alloc::Global;
 
-/// What a call answered and wrote.
+/// What a call answered and wrote, and the items that it answered, written as a plain theory.
 #[derive(Drop)]
 pub(crate) struct Ran {
     pub status: u8,
     pub out: Vec<u8>,
     pub err: Vec<u8>,
+    pub theory: Vec<u8>,
 }
 
 /// A trial that went otherwise than the row says: which one, and what came of it.
@@ -33,6 +37,11 @@ pub(crate) fn try_row(alloc: Global, row: &Row) -> Result<Option<Difference>, Ro
     if !is_wanted(row, &ran) {
         let trial = String::from_str(alloc, "over what never fails")?;
         return Ok(Some(Difference { trial, ran }));
+    }
+    let again = run_theory(alloc, row, &ran.theory)?;
+    if !is_same_theory(row, &ran, &again) {
+        let trial = String::from_str(alloc, "the answered items, read once more")?;
+        return Ok(Some(Difference { trial, ran: again }));
     }
     for failing in [Failing::Read, Failing::Out, Failing::Err] {
         let found = fail_in_turn(alloc, row, failing)?;
@@ -118,6 +127,68 @@ fn is_write_fault(row: &Row, ran: &Ran) -> bool {
     fronts && ran.status == 4
 }
 
+/// Whether the items that a call answered are accepted, are answered alike, and are those of whose
+/// lines it wrote: all of them, where the text was accepted with its line of counts.
+fn is_same_theory(row: &Row, ran: &Ran, again: &Ran) -> bool {
+    let read = again.status == 0 && again.err.is_empty();
+    let lines = if row.status == 0 {
+        again.out.as_slice() == ran.out.as_slice()
+    } else {
+        match again.out.strip_prefix(ran.out.as_slice()) {
+            Some(rest) => rest.starts_with(b"items ")
+                && rest.iter().position(|b| *b == b'\n') == Some(rest.len().saturating_sub(1)),
+            None => false,
+        }
+    };
+    read && lines && again.theory.as_slice() == ran.theory.as_slice()
+}
+
+/// Calls with items that were answered, over what never fails.
+fn run_theory(alloc: Global, row: &Row, theory: &[u8]) -> Result<Ran, RowFault> {
+    let mut words = Vec::new(alloc);
+    words.push(Text::new(alloc, "check")?)?;
+    words.push(Text::new(alloc, "answered.lt")?)?;
+    let mut lib = SureLibrary::new(alloc);
+    lib.put(
+        alloc,
+        Name8::new(alloc, "answered.lt")?,
+        theory.to_vec(alloc)?,
+    )?;
+    let mut out = SureSink::new(alloc, row.out.room.saturating_add(COUNTS))?;
+    let mut err = SureSink::new(alloc, row.err.room)?;
+    let ended = lt_sure(alloc, &words, &mut lib, &mut out, &mut err);
+    ran_to(
+        alloc,
+        &ended,
+        out.bytes().unwrap_or(&[]),
+        err.bytes().unwrap_or(&[]),
+    )
+}
+
+/// Room for the line of counts.
+const COUNTS: usize = 100;
+
+/// What came of a call.
+fn ran_to(alloc: Global, ended: &Ended, out: &[u8], err: &[u8]) -> Result<Ran, RowFault> {
+    Ok(Ran {
+        status: ended.status,
+        out: out.to_vec(alloc)?,
+        err: err.to_vec(alloc)?,
+        theory: written(alloc, &ended.items)?,
+    })
+}
+
+/// Items as a plain theory, with the lines of their lemmas.
+fn written(alloc: Global, items: &Items) -> Result<Vec<u8>, RowFault> {
+    let mut theory = Vec::new(alloc);
+    theory.extend_from_slice(b"plain 1;\n")?;
+    for item in items.as_slice() {
+        let text = write_item(alloc, item)?;
+        theory.extend_from_slice(text.as_bytes())?;
+    }
+    Ok(theory)
+}
+
 /// The words of a row as a call takes them.
 fn words_of(alloc: Global, row: &Row) -> Result<Vec<Text>, RowFault> {
     let mut words = Vec::new(alloc);
@@ -144,11 +215,7 @@ fn run(
     let mut out = MemorySink::new(alloc, outs.to_vec(alloc)?, row.out.room)?;
     let mut err = MemorySink::new(alloc, errs.to_vec(alloc)?, row.err.room)?;
     let ended = lt(alloc, &words, &mut lib, &mut out, &mut err);
-    Ok(Ran {
-        status: ended.status,
-        out: out.bytes().to_vec(alloc)?,
-        err: err.bytes().to_vec(alloc)?,
-    })
+    ran_to(alloc, &ended, out.bytes(), err.bytes())
 }
 
 /// Calls with a row's words over a library and sinks that never fail.
@@ -162,9 +229,10 @@ fn run_sure(alloc: Global, row: &Row) -> Result<Ran, RowFault> {
     let mut out = SureSink::new(alloc, row.out.room)?;
     let mut err = SureSink::new(alloc, row.err.room)?;
     let ended = lt_sure(alloc, &words, &mut lib, &mut out, &mut err);
-    Ok(Ran {
-        status: ended.status,
-        out: out.bytes().unwrap_or(&[]).to_vec(alloc)?,
-        err: err.bytes().unwrap_or(&[]).to_vec(alloc)?,
-    })
+    ran_to(
+        alloc,
+        &ended,
+        out.bytes().unwrap_or(&[]),
+        err.bytes().unwrap_or(&[]),
+    )
 }
