@@ -4,7 +4,7 @@ use Rattle.std.proofs.Common.{refl}
 use Rattle.std.specs.Fmt.{digits}
 use Rattle.lt_definitions.specs.Items.{Item}
 use Rattle.lt_definitions.specs.Theory.{checked}
-use Rattle.lt_transport_definitions.specs.LawTexts.{laws}
+use Rattle.lt_transport_definitions.specs.LawTable.{laws}
 use Rattle.lt_transport_definitions.specs.Sessions.{Session, new_session}
 use Rattle.lt_texts.specs.Commands.{Command, item_command, law_command}
 use Rattle.lt_transport_definitions.specs.Samples.{LeadTo, IsReached, behind_items, with_laws, law_items, behind_laws, session_over}

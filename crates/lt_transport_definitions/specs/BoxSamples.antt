@@ -9,7 +9,7 @@ use Rattle.lt_definitions.specs.Items.{Item, type_item, const_item, axiom_item}
 use Rattle.lt_transport_definitions.specs.Notation.{WithType, ◌⇒◌, ◌~◌, ◌·◌, ◌≐◌, equality_at}
 use Rattle.lt_transport_definitions.specs.Constants.{apply, rel_fun, relcompp, domainp, quotient}
 use Rattle.lt_transport_definitions.specs.Relations.{Correspondence}
-use Rattle.lt_transport_definitions.specs.LawTexts.{further_statements}
+use Rattle.lt_transport_definitions.specs.LawTable.{further_statements}
 use Rattle.lt_transport_definitions.specs.Sessions.{Four, Session}
 use Rattle.lt_transport_definitions.specs.QuotientTerms.{identity_four}
 use Rattle.lt_transport_definitions.specs.Commands.{corr_registered, property_registered, domain_registered, with_registration}

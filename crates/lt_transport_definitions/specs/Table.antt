@@ -11,7 +11,8 @@ use Rattle.lt_transport_definitions.specs.Answers.{wrong_where}
 use Rattle.lt_transport_definitions.specs.Forms.{correspondence_form, property_form, domain_form, is_over_variables}
 use Rattle.lt_transport_definitions.specs.RuleForm.{rule_form}
 use Rattle.lt_transport_definitions.specs.RelatorForm.{relator_form}
-use Rattle.lt_transport_definitions.specs.LawTexts.{equality_law, law_statement, laws_of_lifting, laws_of_lifting_typedef, laws_of_quotient_type, laws_of_lift, laws_of_parametric, laws_of_param_rule}
+use Rattle.lt_transport_definitions.specs.LawTable.{equality_law}
+use Rattle.lt_transport_definitions.specs.LawTexts.{law_statement, laws_of_lifting, laws_of_lifting_typedef, laws_of_quotient_type, laws_of_lift, laws_of_parametric, laws_of_param_rule}
 use Rattle.lt_transport_definitions.specs.Sessions.{Session, signature_of, transport_of, QuotientEntry, typedef_of, quotient_of, Four}
 use Rattle.lt_transport_definitions.specs.Commands.{CommandRefusal, because, Registration, law_registered, corr_registered, relator_registered, property_registered, domain_registered, rule_registered, as_item, a_lemma, this_item}
 use Rattle.lt_transport_definitions.specs.Rows.{Row, ◌⊳◌, with_value, with_form, adds, with_statement, law_test, registered_test, item_test, lemma_of, with_its_type, with_quotient}

@@ -21,7 +21,7 @@ use Rattle.lt_transport_laws.proofs.OneTransport.{each-one}
 use Rattle.lt_transport_laws.proofs.OneWalk.{session-one, same-refusal, not-both}
 
 -- a command that stands next
-record Next (at : Left) : Type 0 where
+pub record Next (at : Left) : Type 0 where
   command : Command
   place : ℕ
   lines : List ℕ
@@ -53,7 +53,7 @@ refused-one s at c d r q k h g =
     (subst (λ (x : Command). ComesOf s x (Err r)) (same-next at c d).0 h) g)
 
 -- a command that stands next, by its parts
-next-of : (at : Left) (c : Command) (from : ℕ) (lines : List ℕ) (to : ℕ) (behind : Left) → NextPlaced theory_text at c from lines to behind → Next at
+unfoldable pub next-of : (at : Left) (c : Command) (from : ℕ) (lines : List ℕ) (to : ℕ) (behind : Left) → NextPlaced theory_text at c from lines to behind → Next at
 next-of at c from lines to behind p = record { command = c; place = from; lines = lines; to = to; behind = behind; stands = p }
 
 -- a walk that adds nothing ends in one way
@@ -78,7 +78,7 @@ ends-one limit s at end other k (inr (inr (c, from, lines, to, behind, p, r, f, 
     e ∙ ((λ i. refused (same i) (place_of (n.1 i) (n.2 i) (line_of (same i)))) ∙ sym h)
 
 -- where it ends no command gives anything
-ends-none : (limit : ℕ) (s : Session) (at : Left) (end : End CommandRefusal) (d : Next at) (items : List Item) (later : Session) → IsKeptSession s
+pub ends-none : (limit : ℕ) (s : Session) (at : Left) (end : End CommandRefusal) (d : Next at) (items : List Item) (later : Session) → IsKeptSession s
     → EndsThere (theory_commands limit) s at end → Gives s d.command items later → ⊥
 unfolding next-of
 ends-none limit s at end d items later k (inl a) g = next-no-end at d a.0
@@ -102,7 +102,7 @@ walk-one limit s at (x ∷ xs) (y ∷ ys) end other k (c, from, lines, to, behin
     (subst (λ (t : Session). WalksOn (theory_commands limit) t behind xs end) e w) in
     walk-one limit after rest xs ys end other (stay-kept s d y after k h) w' v
 
-not-longer : (n m : ℕ) → n < m → m ≤ n → ⊥
+pub not-longer : (n m : ℕ) → n < m → m ≤ n → ⊥
 not-longer n m h k = omega arith
 
 pub runs-one : RunsHaveOneEnd

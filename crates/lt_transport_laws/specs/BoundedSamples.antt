@@ -12,7 +12,7 @@ use Rattle.lt_transport_definitions.specs.Relations.{Relation, relation_variable
 use Rattle.lt_transport_definitions.specs.Expressions.{function_relator, implication}
 use Rattle.lt_transport_definitions.specs.RuleForm.{TransferRule}
 use Rattle.lt_transport_definitions.specs.Search.{equal, Question}
-use Rattle.lt_transport_definitions.specs.LawTexts.{further_statements}
+use Rattle.lt_transport_definitions.specs.LawTable.{further_statements}
 use Rattle.lt_transport_definitions.specs.Sessions.{QuotientEntry, Session, signature_of}
 use Rattle.lt_transport_definitions.specs.Quotients.{Quot, identity_quotient, relator_quotient, registered_quotient, no_quots, quot_and}
 use Rattle.lt_transport_definitions.specs.QuotientTerms.{four_of}

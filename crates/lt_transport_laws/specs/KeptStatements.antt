@@ -1,6 +1,6 @@
 -- What the laws say of the sessions to which commands lead.
 -- Source: this project's own.
-use Rattle.std.specs.Prelude.{◌≡◌, ℕ, List, [], Some}
+use Rattle.std.specs.Prelude.{◌≡◌, ℕ, List, [], true, Some}
 use Rattle.lt_definitions.specs.Types.{Chars, found, bool}
 use Rattle.lt_definitions.specs.Terms.{TermTree}
 use Rattle.lt_definitions.specs.Typing.{HasType}
@@ -11,7 +11,8 @@ use Rattle.lt_texts.specs.Commands.{Command}
 use Rattle.lt_walks.specs.Walks.{End, WalksOn}
 use Rattle.lt_transport_definitions.specs.Commands.{CommandRefusal}
 use Rattle.lt_transport_definitions.specs.Blocks.{Gives}
-use Rattle.lt_transport_definitions.specs.TheoryWalks.{theory_commands, RunsText}
+use Rattle.lt_transport_definitions.specs.TheoryWalks.{theory_commands, RunsText, items_of_blocks}
+use Rattle.lt_transport_definitions.specs.Reports.{written_of}
 use Rattle.lt_transport_laws.specs.Statements.{IsRegistry}
 use Rattle.lt_transport_laws.specs.SessionStatements.{AreScopedDomains, IsScopedSession, IsInStep}
 use Rattle.lt_transport_laws.specs.OrderStatements.{IsOrderedSession}
@@ -55,3 +56,10 @@ abbrev pub RunsHaveOneEnd : Type 0
 RunsHaveOneEnd =
     (limit : ℕ) (text : List ℕ) (blocks others : List (List Item)) (end other : End CommandRefusal)
     → RunsText limit text blocks end → RunsText limit text others other → end ≡ other
+
+-- A run over a text has one summary: two runs differ in the lines of lemmas alone.
+abbrev pub RunsHaveOneSummary : Type 0
+RunsHaveOneSummary =
+    (limit : ℕ) (text : List ℕ) (blocks others : List (List Item)) (end other : End CommandRefusal)
+    → RunsText limit text blocks end → RunsText limit text others other
+    → written_of true (items_of_blocks blocks) end ≡ written_of true (items_of_blocks others) other

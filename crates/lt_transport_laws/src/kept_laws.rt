@@ -1,5 +1,5 @@
 //! Laws of the sessions to which commands lead. Each function does nothing: its contract is the law.
-ghost use Rattle.lt_transport_laws.specs.KeptStatements.{NewSessionsAreKept, SessionsAreKept, KeptSessionsAreScoped, KeptStatementsAreBoolean, WalksAreOne, RunsHaveOneEnd};
+ghost use Rattle.lt_transport_laws.specs.KeptStatements.{NewSessionsAreKept, SessionsAreKept, KeptSessionsAreScoped, KeptStatementsAreBoolean, WalksAreOne, RunsHaveOneEnd, RunsHaveOneSummary};
 
 /// What commands give leaves a session in order, sound, with binders, and in step; and then the
 /// premises of the other laws on sessions hold, and each of its statements is boolean.
@@ -14,4 +14,9 @@ pub fn sessions_are_kept()
 pub fn walks_are_one()
     ensures walk { WalksAreOne }
     ensures run { RunsHaveOneEnd }
+{}
+
+/// A run over a text has one summary.
+pub fn runs_have_one_summary()
+    ensures { RunsHaveOneSummary }
 {}

@@ -1,0 +1,17 @@
+pub mod Accepted
+pub mod Behind
+pub mod Committed
+pub mod Counts
+pub mod Entered
+pub mod LineOutcomes
+pub mod Stands
+pub mod StoredLines
+pub mod Tested
+pub mod Unreached
+pub mod WholeLines
+pub mod Backward
+pub mod ProvedLemmas
+pub mod ToldSequents
+pub mod KeptLines
+pub mod Placed
+pub mod ToldLines

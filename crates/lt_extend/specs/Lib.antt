@@ -1,0 +1,10 @@
+pub mod Deriving
+pub mod Drafts
+pub mod Entering
+pub mod Lemmas
+pub mod Placing
+pub mod Proving
+pub mod Standing
+pub mod Storing
+pub mod Telling
+pub mod Theories

@@ -1,0 +1,54 @@
+//! Items are added to a theory.
+ghost use Rattle.std.specs.Prelude.{◌≡◌};
+ghost use Rattle.lt_hol.specs.Items.{item_of};
+ghost use Rattle.lt_texts.specs.Commands.{item_command};
+ghost use Rattle.lt_texts.specs.Forms.{plain_text, a_command, IsAllowed};
+ghost use Rattle.lt_commands.specs.Views.{command_of};
+ghost use Rattle.lt_extend.specs.Theories.{IsInStep};
+ghost use Rattle.lt_plain.specs.Stepping.{AddsOrNot};
+
+use lt_commands::Command;
+use lt_extend::{ItemFault, Theory};
+use lt_hol::Item;
+use lt_store::TermStore;
+use std::alloc::Global;
+
+/// Adds an item where it is valid over those before it, and else answers its first refusal.
+pub(crate) fn add_item<S: TermStore>(
+    alloc: Global,
+    th: &mut Theory<S>,
+    item: Item,
+) -> Result<(), ItemFault>
+    requires { IsInStep th.old }
+    ensures adds { AddsOrNot th.old item th.new result }
+    ensures in_step { IsInStep th.new }
+{
+    match item {
+        Item::TypeDecl(name, arity) => th.declare_type(alloc, name, arity),
+        Item::ConstDecl(name, ty) => th.declare_const(alloc, name, ty),
+        Item::Axiom(label, statement) => th.add_axiom(alloc, label, statement),
+        Item::Def(name, ty, body) => th.define(alloc, name, ty, body),
+        Item::Typedef(name, params, predicate, by, abs, rep) => {
+            th.typedef(alloc, name, params, predicate, &by, abs, rep)
+        }
+        Item::Lemma(label, statement, lines) => th.add_lemma(alloc, label, statement, lines),
+    }
+}
+
+/// A command that may stand in a plain text, as an item.
+pub(crate) fn item_from(command: Command) -> Item
+    requires { IsAllowed plain_text (a_command (command_of command)) }
+    ensures { command_of command ≡ item_command (item_of result) }
+{
+    match command {
+        Command::TypeDecl(name, arity) => Item::TypeDecl(name, arity),
+        Command::ConstDecl(name, ty) => Item::ConstDecl(name, ty),
+        Command::Axiom(label, statement) => Item::Axiom(label, statement),
+        Command::Def(name, ty, body) => Item::Def(name, ty, body),
+        Command::Typedef(name, params, predicate, by, abs, rep) => {
+            Item::Typedef(name, params, predicate, by, abs, rep)
+        }
+        Command::Lemma(label, statement, lines) => Item::Lemma(label, statement, lines),
+        _ => unreachable!(),
+    }
+}
