@@ -1,0 +1,4 @@
+-- The definitions, in the order in which they are read.
+pub mod Letters
+pub mod Stacks
+pub mod Views
