@@ -1,1 +1,3 @@
+-- The definitions, in the order in which they are read.
 pub mod Tables
+pub mod Registering

@@ -1,7 +1,11 @@
 //! The laws of transport: their statements, which of them are registered, and their instances.
 #![tactic(auto)]
 
+mod law_fault;
+mod registered;
 mod statements;
 mod table;
 
+pub use law_fault::LawFault;
+pub use registered::Laws;
 pub use statements::law_statement;
