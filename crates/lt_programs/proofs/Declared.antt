@@ -36,9 +36,9 @@ found-either x [] c d v e = elim (cases_Bool (same_name x c)) [
 found-either x (p ∷ ps) c d v e = elim (cases_Bool (same_name x p.0)) [
   | inl h ↦ inl (cond-true (same_name x p.0) (Some p.1) (found x ps) h ∙ sym (cond-true (same_name x p.0) (Some p.1) (found x (ps ++ (c, d) ∷ [])) h) ∙ e)
   | inr h ↦ elim (found-either x ps c d v (sym (cond-false (same_name x p.0) (Some p.1) (found x (ps ++ (c, d) ∷ [])) h) ∙ e)) [
-      | inl k ↦ inl (cond-false (same_name x p.0) (Some p.1) (found x ps) h ∙ k)
-      | inr k ↦ inr k
-    ]
+    | inl k ↦ inl (cond-false (same_name x p.0) (Some p.1) (found x ps) h ∙ k)
+    | inr k ↦ inr k
+  ]
 ]
 
 unless-of : {A : Type 0} (o : Option Fault) (r : Result A Fault) (x : A) → unless o r ≡ Ok x → (o ≡ None) × (r ≡ Ok x)
@@ -87,12 +87,12 @@ covers-one sig c d s a = record {
       elim (found-either x built_in.consts c d g.declared g.is) [
         | inl k ↦ of-given sig x ts ty (record { declared = g.declared; is = s.built.consts x g.declared k; count = g.count; sound = sound; gives = g.gives })
         | inr k ↦ of-given sig x ts ty (record {
-            declared = a.declared;
-            is = ap (λ n. found n sig.consts) k.0 ∙ a.is;
-            count = g.count ∙ ap (λ t. length (type_variables t)) k.1 ∙ sym a.count;
-            sound = sound;
-            gives = a.gives ts (g.count ∙ ap (λ t. length (type_variables t)) k.1) ∙ ap (λ t. at_types t ts) (sym k.1) ∙ g.gives;
-          })
+          declared = a.declared;
+          is = ap (λ n. found n sig.consts) k.0 ∙ a.is;
+          count = g.count ∙ ap (λ t. length (type_variables t)) k.1 ∙ sym a.count;
+          sound = sound;
+          gives = a.gives ts (g.count ∙ ap (λ t. length (type_variables t)) k.1) ∙ ap (λ t. at_types t ts) (sym k.1) ∙ g.gives;
+        })
       ];
 }
 
@@ -184,7 +184,7 @@ ex-alike sig s b =
     let inner = fun-parts vs outer.0 any_type bool outer.3 in
     let v = any-parts vs inner.0 inner.3 in
     let same : g.declared ≡ over_predicates (type_variable v.0) =
-        outer.2 ∙ (λ i. fun ((inner.2 ∙ (λ j. fun (v.1 j) (bool-parts vs inner.1 inner.4 j))) i) (bool-parts vs outer.1 outer.4 i)) in
+    outer.2 ∙ (λ i. fun ((inner.2 ∙ (λ j. fun (v.1 j) (bool-parts vs inner.1 inner.4 j))) i) (bool-parts vs outer.1 outer.4 i)) in
     record {
       declared = g.declared;
       is = g.is;

@@ -5,3 +5,4 @@ pub mod TypedTermLemmas
 pub mod Covering
 pub mod Declared
 pub mod ConnectiveLemmas
+pub mod DerivationLemmas

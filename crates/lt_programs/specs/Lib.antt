@@ -2,5 +2,6 @@
 pub mod Programs
 pub mod Openings
 pub mod Connectives
+pub mod Derivations
 pub mod TypeLengths
 pub mod TypedTerms

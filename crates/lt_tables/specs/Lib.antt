@@ -2,3 +2,4 @@
 pub mod Letters
 pub mod Stacks
 pub mod Views
+pub mod Rules

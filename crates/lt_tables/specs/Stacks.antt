@@ -108,3 +108,11 @@ only_term _ = None
 -- the term of a text
 abbrev pub term_of : List ℕ → Option TermTree
 term_of text = only_term (signs text nothing).terms
+
+-- .. and where another text declares the letters
+abbrev pub term_with : List ℕ → List ℕ → Option TermTree
+term_with types text = only_term (signs text (signs types nothing)).terms
+
+-- the type with which a text declares a letter
+abbrev pub type_with : List ℕ → ℕ → TypeTree
+type_with types l = type_of (signs types nothing).declared l

@@ -6,7 +6,7 @@ use lt_types::{Memory, Name, Ty};
 use std::alloc::Global;
 
 /// The name that a text of ASCII letters, digits and underscores is.
-pub(crate) fn word(alloc: Global, text: &str) -> Result<Name, Memory>
+pub fn word(alloc: Global, text: &str) -> Result<Name, Memory>
     requires { IsTrue (is_plain text.now) }
     ensures { IfOk result (λ name. name ≡ text.now) }
 {
@@ -25,7 +25,7 @@ fn letter_name(alloc: Global, letter: u8) -> Result<Name, Memory>
 }
 
 /// The name of a variable: a letter, or for a digit one of the names of two quotients.
-pub(crate) fn variable_name(alloc: Global, letter: u8) -> Result<Name, Memory>
+pub fn variable_name(alloc: Global, letter: u8) -> Result<Name, Memory>
     ensures { IfOk result (λ name. name ≡ variable_name letter) }
 {
     match letter {

@@ -44,7 +44,13 @@ impl Making {
     fn last_type(&self, alloc: Global) -> Result<Ty, Memory>
         ensures { IfOk result (λ ty. ty ≡ type_of (stacks_of self.now).declared self.now.last) }
     {
-        let letter = self.last;
+        Ok(self.type_of(alloc, self.last)?)
+    }
+
+    /// The type of a letter.
+    pub fn type_of(&self, alloc: Global, letter: u8) -> Result<Ty, Memory>
+        ensures { IfOk result (λ ty. ty ≡ type_of (stacks_of self.now).declared letter) }
+    {
         match self.declared.iter().rev().find(|d| d.0 == letter) {
             Some(d) => Ok(d.1.copy(alloc)?),
             None => Ok(letter_type(alloc, letter)?),
