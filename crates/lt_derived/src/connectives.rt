@@ -1,26 +1,24 @@
 //! Conjunction and existence, by the definitions of `and` and `ex`.
 ghost use Rattle.std.specs.Prelude.{◌≡◌, IsTrue, Ok, codes};
-ghost use Rattle.lt_definitions.specs.Rules.{where_holds, with_line, with_lines};
+ghost use Rattle.lt_definitions.specs.Rules.{where_holds, with_lines};
 ghost use Rattle.lt_definitions.specs.declared.reason.Reason.TheVariants.{UnknownLabel as NoLabel};
 ghost use Rattle.lt_nameless.specs.Nameless.{IsWhole};
-ghost use Rattle.lt_store.specs.Trees.{tree_at};
-ghost use Rattle.lt_store.specs.Typed.{IsTyped};
 ghost use Rattle.lt_kernel.specs.State.{sequents, statements};
 ghost use Rattle.lt_kernel.specs.Growing.{Carries, IsSound};
 ghost use Rattle.lt_kernel.specs.Reaching.{Reaches};
 ghost use Rattle.lt_programs.specs.Programs.{theorem};
-ghost use Rattle.lt_programs.specs.Connectives.{is_stated, with_and, conjunction_law, conjoined, left_law, left_side, right_law, right_side};
+ghost use Rattle.lt_programs.specs.Connectives.{is_stated, with_and, conjunction_law, conjoined};
 ghost use Rattle.lt_tables.specs.Letters.{is_plain};
 ghost use Rattle.lt_tables.specs.Rules.{form_with};
-ghost use Rattle.lt_tables.specs.Tables.{and_meaning};
+ghost use Rattle.lt_programs.specs.Derivations.{and_meaning};
 
 use crate::repeating::{chain, spec};
 use crate::tabled::{put_text, tabled};
-use lt_formulas::application;
+use lt_formulas::are_same;
 use lt_hol::Reason;
 use lt_kernel::{Proof, RuleFault};
-use lt_store::{Id, TermStore};
-use lt_tables::derivations::{AND, AND_INTRODUCED, AND_LEFT, AND_RIGHT, AND_UNFOLDED, TRUTHS};
+use lt_store::TermStore;
+use lt_tables::derivations::{AND, AND_INTRODUCED, AND_UNFOLDED, TRUTHS};
 use lt_tables::word;
 use std::alloc::Global;
 
@@ -46,7 +44,8 @@ pub(crate) fn stated<S: TermStore>(
     };
     let statement = put_text(alloc, proof, types, text)?;
     let concl = proof.conclusion(line);
-    if !proof.same(alloc, concl, statement)? {
+    let is_same = are_same(alloc, proof, statement, concl)?;
+    if !is_same {
         return Err(RuleFault::Bad(Reason::UnknownLabel));
     }
     Ok(line)

@@ -1,5 +1,5 @@
 //! Equations of functions at arguments, and definitions unfolded.
-ghost use Rattle.std.specs.Prelude.{◌≡◌, ◌<◌, length, map, is_some, None, Some, IfOk};
+ghost use Rattle.std.specs.Prelude.{◌≡◌, ◌<◌, length, map, is_some, true, None, Some, IfOk};
 ghost use Rattle.std.specs.List.{All};
 ghost use Rattle.lt_definitions.specs.Types.{row};
 ghost use Rattle.lt_definitions.specs.Typing.{types_fault, with_ok};
@@ -21,7 +21,7 @@ use lt_store::{Id, TermStore};
 use std::alloc::Global;
 
 /// Whether a term is a redex.
-fn is_redex<S: TermStore>(store: &S, t: Id) -> bool
+pub(crate) fn is_redex<S: TermStore>(store: &S, t: Id) -> bool
     requires { t < length (S.nodes store.now) }
     ensures { result ≡ is_some (nameless_beta (tree_at (S.nodes store.now) t)) }
 {
@@ -29,11 +29,7 @@ fn is_redex<S: TermStore>(store: &S, t: Id) -> bool
 }
 
 /// From `H |- l = f t`: `H |- l = f` opened by `t`, or the line itself where `f` is no abstraction.
-fn open_right<S: TermStore>(
-    alloc: Global,
-    proof: &mut Proof<S>,
-    i: usize,
-) -> Result<usize, Memory>
+fn open_right<S: TermStore>(alloc: Global, proof: &mut Proof<S>, i: usize) -> Result<usize, Memory>
     requires sound { IsSound proof.old }
     requires form { OfApplication proof.old i }
     ensures line { (q : OfApplication proof.old i) → IfOk result (λ n. line_at (sequents proof.new) n
@@ -58,6 +54,7 @@ fn at_argument<S: TermStore>(
     i: usize,
 ) -> Result<usize, RuleFault>
     requires sound { IsSound proof.old }
+    requires there { is_some (line_at (sequents proof.old) i) ≡ true }
     requires t { IsTyped proof.old.signature proof.old.nodes t }
     ensures reaches { Reaches proof.new result (with_line (sequents proof.old) i
         (at_argument proof.old.signature (tree_at proof.old.nodes t))) }

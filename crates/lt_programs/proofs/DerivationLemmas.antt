@@ -12,10 +12,10 @@ use Rattle.lt_programs.specs.Derivations.{Derives, p_variable, q_variable, and_m
 use Rattle.lt_programs.proofs.Covering.{Covers, good-covers, followed-covers}
 use Rattle.lt_programs.proofs.Declared.{with_constant, covers-one, and-alike, ex-alike}
 
-abbrev with-and : Signature
+abbrev pub with-and : Signature
 with-and = with_constant (codes "and") (fun bool (fun bool bool))
 
-abbrev with-ex : Signature
+abbrev pub with-ex : Signature
 with-ex = with_constant (codes "ex") (fun (fun any_type bool) bool)
 
 over : (small sig : Signature) → Covers small sig → (p : Nameless) (rules : List (Rule Nameless)) (q : Nameless)

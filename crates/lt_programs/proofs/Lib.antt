@@ -4,5 +4,6 @@ pub mod Renamed
 pub mod TypedTermLemmas
 pub mod Covering
 pub mod Declared
+pub mod Unions
 pub mod ConnectiveLemmas
 pub mod DerivationLemmas
