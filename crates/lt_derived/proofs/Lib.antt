@@ -3,3 +3,7 @@ pub mod Walked
 pub mod Replaced
 pub mod Stated
 pub mod EquationLemmas
+pub mod TabledLemmas
+pub mod UnfoldingLemmas
+pub mod ConnectiveSteps
+pub mod ExistenceSteps

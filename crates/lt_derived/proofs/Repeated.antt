@@ -40,10 +40,10 @@ all-still-typed old now ids c h = λ k d l. still-typed old now (get_or ids k d)
 pub typed-at : (s : State) (ids : List ℕ) (k : ℕ) → All (IsTyped s.signature s.nodes) ids → k < length ids → IsTyped s.signature s.nodes (get_or ids k 0)
 typed-at s ids k h l = All-get_or (IsTyped s.signature s.nodes) ids k 0 l h
 
-one-left : (ids : List ℕ) (k : ℕ) → k < length ids → drop k ids ≡ get_or ids k 0 ∷ drop (k + 1) ids
+pub one-left : (ids : List ℕ) (k : ℕ) → k < length ids → drop k ids ≡ get_or ids k 0 ∷ drop (k + 1) ids
 one-left ids k l = drop-cons ids k 0 l ∙ ap (λ m. get_or ids k 0 ∷ drop m ids) (sym (add-one k))
 
-none-left : (ids : List ℕ) (k : ℕ) → length ids ≤ k → drop k ids ≡ []
+pub none-left : (ids : List ℕ) (k : ℕ) → length ids ≤ k → drop k ids ≡ []
 none-left [] zero h = refl
 none-left [] (suc k) h = refl
 none-left (i ∷ ids) zero h = absurd (omega arith)
@@ -106,11 +106,13 @@ module _ (old now next : State) (js : List ℕ) (m k n : ℕ) (whole : NamelessO
       subst Over (λ i s. with_ok (with_found MissingLine (here i) (λ u. detached s u)) (rest_by old js (k + 1)))
       (subst (λ (is : List ℕ). Holds now n (detached_by (sequents old) is) whole) (one-left js k l) h)
 
-  pub by-next : (r : ℕ) → IsGiven next r (nameless_mp_gives (sequents now) n (get_or js k 0)) → Holds next r (rest_by old js (k + 1)) whole
-  by-next r a = next-holds now next n r (λ s. with_line (sequents now) (get_or js k 0) (λ u. detached s u)) (rest_by old js (k + 1)) whole holds-by a
+  pub by-next : (r j : ℕ) → j ≡ get_or js k 0 → IsGiven next r (nameless_mp_gives (sequents now) n j) → Holds next r (rest_by old js (k + 1)) whole
+  by-next r j e b = let a = subst (λ (x : ℕ). IsGiven next r (nameless_mp_gives (sequents now) n x)) e b in
+      next-holds now next n r (λ s. with_line (sequents now) (get_or js k 0) (λ u. detached s u)) (rest_by old js (k + 1)) whole holds-by a
 
-  pub by-fails : (e : RuleFault) → Reaches next (Err e) (nameless_mp_gives (sequents now) n (get_or js k 0)) → Reaches next (Err e) whole
-  by-fails e a = next-fails now next n e (λ s. with_line (sequents now) (get_or js k 0) (λ u. detached s u)) (rest_by old js (k + 1)) whole holds-by a
+  pub by-fails : (e : RuleFault) (j : ℕ) → j ≡ get_or js k 0 → Reaches next (Err e) (nameless_mp_gives (sequents now) n j) → Reaches next (Err e) whole
+  by-fails e j q b = let a = subst (λ (x : ℕ). Reaches next (Err e) (nameless_mp_gives (sequents now) n x)) q b in
+      next-fails now next n e (λ s. with_line (sequents now) (get_or js k 0) (λ u. detached s u)) (rest_by old js (k + 1)) whole holds-by a
 
 -- no premise is left, or the first that is left is no line
 pub by-ends : (old now : State) (js : List ℕ) (k n : ℕ) (whole : NamelessOutcome) → length js ≤ k → Holds now n (rest_by old js k) whole → IsGiven now n whole

@@ -1,6 +1,6 @@
 -- Lines that equate terms.
 -- Source: this project's own.
-use Rattle.std.specs.Prelude.{◌≡◌, ℕ, ◌<◌, length, Some, None}
+use Rattle.std.specs.Prelude.{◌≡◌, ℕ, ◌<◌, List, length, Some, None}
 use Rattle.lt_definitions.specs.Types.{TypeTree}
 use Rattle.lt_definitions.specs.Rules.{line_at}
 use Rattle.lt_nameless.specs.Nameless.{Nameless, nameless_application}
@@ -45,3 +45,13 @@ pub record Apply (s : State) (i j : ℕ) : Type 0 where
   pub functions : Equates s i f g
   pub arguments : Equates s j a b
   pub typed : nameless_fault s.signature (nameless_application f a) ≡ None
+
+-- A line that equates a term with an application, under hypotheses.
+pub record OfApplication (s : State) (i : ℕ) : Type 0 where
+  pub hyps : List Nameless
+  pub ty : TypeTree
+  pub left : Nameless
+  pub f : Nameless
+  pub t : Nameless
+  pub line : line_at (sequents s) i
+      ≡ Some (record { hyps = hyps; concl = nameless_equation ty left (nameless_application f t) })

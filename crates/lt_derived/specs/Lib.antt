@@ -1,3 +1,4 @@
 pub mod Premises
 pub mod Equations
 pub mod NodeTypes
+pub mod Tabled

@@ -21,7 +21,7 @@ use lt_store::TermStore;
 use std::alloc::Global;
 
 /// From `H |- p`: `H |- p`, with a type put for a type variable.
-fn put_one<S: TermStore>(
+pub(crate) fn put_one<S: TermStore>(
     alloc: Global,
     proof: &mut Proof<S>,
     i: usize,

@@ -1,5 +1,5 @@
 //! Rules that are repeated.
-ghost use Rattle.std.specs.Prelude.{◌≤◌, length, take, drop};
+ghost use Rattle.std.specs.Prelude.{◌≡◌, ◌<◌, ◌≤◌, length, get_or, take, drop};
 ghost use Rattle.std.specs.List.{All};
 ghost use Rattle.lt_definitions.specs.Rules.{with_line};
 ghost use Rattle.lt_store.specs.Trees.{trees};
@@ -62,7 +62,7 @@ pub fn chain<S: TermStore>(
     let known = known(proof, premises);
     let mut line = i;
     for k in 0..known {
-        line = match proof.mp(alloc, line, premises[k]) {
+        line = match proof.mp(alloc, line, premise(premises, k)) {
             Ok(number) => number,
             Err(fault) => return Err(fault),
         };
@@ -71,6 +71,14 @@ pub fn chain<S: TermStore>(
         return Err(RuleFault::Bad(Reason::MissingLine));
     }
     Ok(line)
+}
+
+/// The premise at a place.
+fn premise(premises: &[usize], place: usize) -> usize
+    requires { place < length premises.now }
+    ensures { result ≡ get_or premises.now place 0 }
+{
+    premises[place]
 }
 
 /// How many of these numbers, from the left, are numbers of lines, up to the first that isn't one.

@@ -133,7 +133,7 @@ first-put n t ns ts a e = elim (cases_Bool (same_name a n)) [
 ]
 
 mutual
-  none-type : (t : TypeTree) → type_instance [] t ≡ t
+  pub none-type : (t : TypeTree) → type_instance [] t ≡ t
   none-type (type_variable a) = refl
   none-type (type_constructor c ts) = ap (type_constructor c) (none-types ts)
 

@@ -3,10 +3,13 @@ ghost use Rattle.std.specs.Prelude.{◌≡◌, ℕ, ◌≤◌, List, length, rev
 ghost use Rattle.lt_definitions.specs.Types.{Chars, TypeTree, type_variable, row};
 ghost use Rattle.lt_definitions.specs.Typing.{Signature};
 ghost use Rattle.lt_nameless.specs.Nameless.{Nameless};
-ghost use Rattle.lt_nameless.specs.NamelessRules.{nameless_instance};
+ghost use Rattle.lt_nameless.specs.NamelessRules.{nameless_instance, IsBooleanNameless};
+ghost use Rattle.lt_nameless.specs.Booleans.{IsSoundSignature};
 ghost use Rattle.lt_types.specs.TypeVariables.{long_names, longest_name, longest_in};
 ghost use Rattle.lt_programs.specs.Programs.{theorem, at_each, put_each, paired};
 ghost use Rattle.lt_programs.specs.Openings.{for_alls, filled, HaveTypes};
+ghost use Rattle.lt_programs.specs.Connectives.{and_definition, ex_definition, any_type, conjunction_law, left_law, right_law, existence_law, choice_law};
+ghost use Rattle.lt_programs.specs.Derivations.{Derives, p_variable, q_variable, and_meaning, and_unfolded, and_introduced, and_projected, ex_meaning, ex_unfolded, ex_introduced, ex_chosen};
 ghost use Rattle.lt_programs.specs.TypeLengths.{longest_type_variable};
 
 /// A statement over variables, at terms of their types, is its body with the terms put at once.
@@ -24,4 +27,33 @@ pub fn types_are_put_at_once()
         → put_each (paired (long_names k (length names)) types)
         (put_each (paired names (map type_variable (long_names k (length names)))) (theorem p))
         ≡ theorem (nameless_instance (paired names types) p) }
+{}
+
+/// Where the definition of `and` is a boolean statement, the laws of conjunction are derived from it.
+pub fn conjunctions_are_derived()
+    ensures unfolded { (sig : Signature) → IsSoundSignature sig
+        → IsBooleanNameless sig and_definition
+        → Derives sig and_definition and_unfolded and_meaning }
+    ensures introduced { (sig : Signature) → IsSoundSignature sig
+        → IsBooleanNameless sig and_definition
+        → Derives sig and_meaning and_introduced conjunction_law }
+    ensures left { (sig : Signature) → IsSoundSignature sig
+        → IsBooleanNameless sig and_definition
+        → Derives sig and_meaning (and_projected p_variable) left_law }
+    ensures right { (sig : Signature) → IsSoundSignature sig
+        → IsBooleanNameless sig and_definition
+        → Derives sig and_meaning (and_projected q_variable) right_law }
+{}
+
+/// Where the definition of `ex` is a boolean statement, the laws of existence are derived from it.
+pub fn existences_are_derived()
+    ensures unfolded { (sig : Signature) → IsSoundSignature sig
+        → IsBooleanNameless sig ex_definition
+        → Derives sig ex_definition ex_unfolded ex_meaning }
+    ensures introduced { (sig : Signature) → IsSoundSignature sig
+        → IsBooleanNameless sig ex_definition
+        → Derives sig ex_meaning ex_introduced (existence_law any_type) }
+    ensures chosen { (sig : Signature) → IsSoundSignature sig
+        → IsBooleanNameless sig ex_definition
+        → Derives sig ex_meaning ex_chosen (choice_law any_type) }
 {}

@@ -21,13 +21,13 @@ loop-k-init g c =
 pub returns-in-Err-clause-reaches : goal.returns-in-Err-clause-reaches
 returns-in-Err-clause-reaches g c =
     by-fails c.args.proof.now c.loop-k.proof c.mp.new.self c.args.premises.now c.known-known.result c.loop-k.k c.loop-k.line _ c.loop-k.invariant.carries
-    c.known-known.ensures.known c.loop-k-test.true (omega (arith, c.loop-k-test.true, c.known-known.ensures.within)) c.loop-k.invariant.holds c.in-Err.fault c.in-Err.ensures.reaches
+    c.known-known.ensures.known c.loop-k-test.true (omega (arith, c.loop-k-test.true, c.known-known.ensures.within)) c.loop-k.invariant.holds c.in-Err.fault c.premise.result c.premise.ensures c.in-Err.ensures.reaches
 
 pub loop-k-preserved : goal.loop-k-preserved
 loop-k-preserved g c = record {
   carries = λ first h. c.mp.ensures.carries first (c.loop-k.invariant.carries first h);
   holds = by-next c.args.proof.now c.loop-k.proof c.mp.new.self c.args.premises.now c.known-known.result c.loop-k.k c.loop-k.line _ c.loop-k.invariant.carries
-      c.known-known.ensures.known c.loop-k-test.true (omega (arith, c.loop-k-test.true, c.known-known.ensures.within)) c.loop-k.invariant.holds c.in-Ok.number c.in-Ok.ensures.reaches;
+      c.known-known.ensures.known c.loop-k-test.true (omega (arith, c.loop-k-test.true, c.known-known.ensures.within)) c.loop-k.invariant.holds c.in-Ok.number c.premise.result c.premise.ensures c.in-Ok.ensures.reaches;
 }
 
 pub returns-then-known-premises-clause-reaches : goal.returns-then-known-premises-clause-reaches

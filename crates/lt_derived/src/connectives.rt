@@ -1,0 +1,113 @@
+//! Conjunction and existence, by the definitions of `and` and `ex`.
+ghost use Rattle.std.specs.Prelude.{◌≡◌, IsTrue, Ok, codes};
+ghost use Rattle.lt_definitions.specs.Rules.{where_holds, with_lines};
+ghost use Rattle.lt_definitions.specs.declared.reason.Reason.TheVariants.{UnknownLabel as NoLabel};
+ghost use Rattle.lt_nameless.specs.Nameless.{IsWhole};
+ghost use Rattle.lt_kernel.specs.State.{sequents, statements};
+ghost use Rattle.lt_kernel.specs.Growing.{Carries, IsSound};
+ghost use Rattle.lt_kernel.specs.Reaching.{Reaches};
+ghost use Rattle.lt_programs.specs.Programs.{theorem};
+ghost use Rattle.lt_programs.specs.Connectives.{is_stated, with_and, conjunction_law, conjoined};
+ghost use Rattle.lt_tables.specs.Letters.{is_plain};
+ghost use Rattle.lt_tables.specs.Rules.{form_with};
+ghost use Rattle.lt_programs.specs.Derivations.{and_meaning};
+
+use crate::repeating::{chain, spec};
+use crate::tabled::{put_text, tabled};
+use lt_formulas::are_same;
+use lt_hol::Reason;
+use lt_kernel::{Proof, RuleFault};
+use lt_store::TermStore;
+use lt_tables::derivations::{AND, AND_INTRODUCED, AND_UNFOLDED, TRUTHS};
+use lt_tables::word;
+use std::alloc::Global;
+
+/// The line of a named statement that is this one; `UnknownLabel` where it is another one or none.
+pub(crate) fn stated<S: TermStore>(
+    alloc: Global,
+    proof: &mut Proof<S>,
+    label: &str,
+    types: &str,
+    text: &str,
+) -> Result<usize, RuleFault>
+    requires label { IsTrue (is_plain label.now) }
+    requires statement { IsWhole 0 (form_with types.now text.now) }
+    ensures reaches { Reaches proof.new result
+        (where_holds (is_stated (statements proof.old) label.now (form_with types.now text.now))
+        NoLabel (Ok (theorem (form_with types.now text.now)))) }
+    ensures carries { Carries proof.old proof.new }
+{
+    let label = word(alloc, label)?;
+    let line = match proof.thm(alloc, label) {
+        Ok(number) => number,
+        Err(fault) => return Err(fault),
+    };
+    let statement = put_text(alloc, proof, types, text)?;
+    let concl = proof.conclusion(line);
+    let is_same = are_same(alloc, proof, statement, concl)?;
+    if !is_same {
+        return Err(RuleFault::Bad(Reason::UnknownLabel));
+    }
+    Ok(line)
+}
+
+/// `|- and p q = all r. (p --> q --> r) --> r`, over free variables.
+fn and_meaning<S: TermStore>(alloc: Global, proof: &mut Proof<S>) -> Result<usize, RuleFault>
+    requires { IsSound proof.old }
+    ensures reaches { Reaches proof.new result
+        (with_and (statements proof.old) (Ok (theorem and_meaning))) }
+    ensures carries { Carries proof.old proof.new }
+{
+    let definition = match stated(alloc, proof, "and_def", TRUTHS, AND) {
+        Ok(number) => number,
+        Err(fault) => return Err(fault),
+    };
+    tabled(alloc, proof, definition, TRUTHS, &AND_UNFOLDED)
+}
+
+/// `|- all p q. p --> q --> and p q`.
+fn conjunction_law<S: TermStore>(alloc: Global, proof: &mut Proof<S>) -> Result<usize, RuleFault>
+    requires { IsSound proof.old }
+    ensures reaches { Reaches proof.new result
+        (with_and (statements proof.old) (Ok (theorem conjunction_law))) }
+    ensures carries { Carries proof.old proof.new }
+{
+    let meaning = match and_meaning(alloc, proof) {
+        Ok(number) => number,
+        Err(fault) => return Err(fault),
+    };
+    tabled(alloc, proof, meaning, TRUTHS, &AND_INTRODUCED)
+}
+
+/// From `H |- p` and `K |- q`: `H, K |- and p q`, each hypothesis once.
+///
+/// `MissingLine`, then `UnknownLabel` where no statement of the label `and_def` is the definition of `and`.
+pub fn conj<S: TermStore>(
+    alloc: Global,
+    proof: &mut Proof<S>,
+    i: usize,
+    j: usize,
+) -> Result<usize, RuleFault>
+    requires { IsSound proof.old }
+    ensures reaches { Reaches proof.new result
+        (with_lines (sequents proof.old) i j (conjoined (statements proof.old))) }
+    ensures carries { Carries proof.old proof.new }
+{
+    if !proof.is_line(i) {
+        return Err(RuleFault::Bad(Reason::MissingLine));
+    }
+    if !proof.is_line(j) {
+        return Err(RuleFault::Bad(Reason::MissingLine));
+    }
+    let law = match conjunction_law(alloc, proof) {
+        Ok(number) => number,
+        Err(fault) => return Err(fault),
+    };
+    let left = proof.conclusion(i);
+    let right = proof.conclusion(j);
+    let at = match spec(alloc, proof, law, &[left, right]) {
+        Ok(number) => number,
+        Err(fault) => return Err(fault),
+    };
+    chain(alloc, proof, at, &[i, j])
+}
