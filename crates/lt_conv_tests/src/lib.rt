@@ -1,0 +1,11 @@
+//! Tests of the derived steps and of conversions: terms that were reduced by hand, and each public call with memory enough.
+#![tactic(auto)]
+
+#[cfg(test)]
+mod conversions;
+#[cfg(test)]
+mod derived;
+#[cfg(test)]
+mod reductions;
+#[cfg(test)]
+mod terms;
