@@ -87,7 +87,6 @@ choice-at sig ty p hp =
     (nameless_implies (existence ty (nameless_bound 0)) (nameless_application (nameless_bound 0) (chosen ty (nameless_bound 0))))
     (has sig p (fun ty bool) hp, tt)
 
-
 -- ---- existence
 
 -- a type that is over another one is that of predicates on it
