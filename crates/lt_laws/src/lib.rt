@@ -1,6 +1,8 @@
-//! The laws of transport: their statements, which of them are registered, and their instances.
+//! The laws of transport: their statements, which of them are registered, and what each is at types and terms.
 #![tactic(auto)]
 
+pub mod definition_laws;
+pub mod instance_laws;
 mod law_fault;
 mod registered;
 mod statements;
