@@ -1,8 +1,9 @@
-//! The laws of transport: their statements, which of them are registered, and what each is at types and terms.
+//! The laws of transport: their statements, which of them are registered, and their instances.
 #![tactic(auto)]
 
 pub mod definition_laws;
 pub mod instance_laws;
+mod instances;
 mod law_fault;
 mod registered;
 mod statements;
