@@ -19,7 +19,7 @@ fn lines(alloc: Global, proof: &mut Proof<PlainStore>) -> Result<(usize, usize),
 #[test]
 fn premises_are_detached(rt: HostRuntime) -> Result<(), Fail> {
     let alloc = rt.alloc();
-    let mut proof = empty(alloc)?;
+    let mut proof = empty(alloc, PlainStore::new(alloc))?;
     let (implied, assumed) = lines(alloc, &mut proof)?;
     let detached = chain(alloc, &mut proof, implied, &[assumed])?;
     assert!(rt; proof.is_line(detached));
@@ -37,7 +37,7 @@ fn premises_are_detached(rt: HostRuntime) -> Result<(), Fail> {
 #[test]
 fn terms_are_put(rt: HostRuntime) -> Result<(), Fail> {
     let alloc = rt.alloc();
-    let mut proof = empty(alloc)?;
+    let mut proof = empty(alloc, PlainStore::new(alloc))?;
     let (implied, _) = lines(alloc, &mut proof)?;
     let all = proof.allI(
         alloc,
@@ -57,7 +57,7 @@ fn terms_are_put(rt: HostRuntime) -> Result<(), Fail> {
 #[test]
 fn statements_have_instances(rt: HostRuntime) -> Result<(), Fail> {
     let alloc = rt.alloc();
-    let mut proof = empty(alloc)?;
+    let mut proof = empty(alloc, PlainStore::new(alloc))?;
     let statement = implies(alloc, variable(alloc, "p")?, variable(alloc, "p")?)?;
     let statement = put(alloc, &mut proof, &statement)?;
     let label = Name::repeated(alloc, 'l', 0)?;

@@ -9,3 +9,5 @@ mod derived;
 mod reductions;
 #[cfg(test)]
 mod terms;
+#[cfg(test)]
+mod unfolding;
