@@ -103,9 +103,9 @@ module _ (sig : Signature) (o : Option Nameless) (t p : Nameless) (is : o ≡ So
       λ i. nameless_application (nameless_application (nameless_constant (name i) ((k.1 i).0 ∷ [])) (k.1 i).1) (k.1 i).2
   equation-is q e d = absurd (cc d)
 
-  module _ (e : TypeTree × Nameless × Nameless) (as : nameless_as_equation p ≡ Some e) where
+  module _ (e : TypeTree × Nameless × Nameless) (shape : nameless_as_equation p ≡ Some e) where
     gives-by : unfolded o t ≡ unfolded_by (Some e) t
-    gives-by = ap (λ q. unfolded q t) is ∙ ap (λ d. unfolded_by d t) as
+    gives-by = ap (λ q. unfolded q t) is ∙ ap (λ d. unfolded_by d t) shape
 
     pub no-instance : is_instance e.1 t ≡ false → AreTypesOf sig o t None
     no-instance k = gives-by ∙ cond-false (is_instance e.1 t) (Some (nameless_instance (types_for e.1 t) e.2)) None k
@@ -116,7 +116,7 @@ module _ (sig : Signature) (o : Option Nameless) (t p : Nameless) (is : o ≡ So
       is = is;
       ty = type_instance m e.0;
       to = nameless_instance m e.2;
-      instance = ap (nameless_instance m) (equation-is p e as) ∙ ap (λ l. nameless_equation (type_instance m e.0) l (nameless_instance m e.2)) k.left;
+      instance = ap (nameless_instance m) (equation-is p e shape) ∙ ap (λ l. nameless_equation (type_instance m e.0) l (nameless_instance m e.2)) k.left;
       gives = gives-by ∙ cond-true (is_instance e.1 t) (Some (nameless_instance (types_for e.1 t) e.2)) None k.test ∙ ap (λ r. Some r) (sym (k.puts e.2));
       sound = k.sound sig typed;
     }
