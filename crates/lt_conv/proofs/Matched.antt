@@ -278,12 +278,12 @@ module _ (c : Chars) (ps ts : List TypeTree) where
 -- an instance is what some types make of the constant
 pub instance-test : (c : Chars) (ps : List TypeTree) (t : Nameless) (m : TypeMap) → nameless_instance m (nameless_constant c ps) ≡ t → is_instance (nameless_constant c ps) t ≡ true
 instance-test c ps t m e = subst (λ (u : Nameless). is_instance (nameless_constant c ps) u ≡ true) e (
-  let ts = map (type_instance m) ps in
-  let read = types_match (row ps) (row ts) in
-  let whole : type_instance m (type_constructor c (row ps)) ≡ type_constructor c (row ts) = ap (type_constructor c) (sym (row-map m ps)) in
-  let matches = read-matches (type_constructor c (row ps)) (type_constructor c (row ts)) m whole in
-  let same = sym (same-put (firsts_behind [] read) read (firsts-same read) (type_constructor c (row ps))) ∙ matches.instance in
-  ap (λ us. same_nameless (nameless_constant c ts) (nameless_constant c us)) (same-rows c ps ts same) ∙ same-refl (nameless_constant c ts))
+    let ts = map (type_instance m) ps in
+    let read = types_match (row ps) (row ts) in
+    let whole : type_instance m (type_constructor c (row ps)) ≡ type_constructor c (row ts) = ap (type_constructor c) (sym (row-map m ps)) in
+    let matches = read-matches (type_constructor c (row ps)) (type_constructor c (row ts)) m whole in
+    let same = sym (same-put (firsts_behind [] read) read (firsts-same read) (type_constructor c (row ps))) ∙ matches.instance in
+    ap (λ us. same_nameless (nameless_constant c ts) (nameless_constant c us)) (same-rows c ps ts same) ∙ same-refl (nameless_constant c ts))
 
 pub test-instance : (c : Chars) (ps : List TypeTree) (t : Nameless) → is_instance (nameless_constant c ps) t ≡ true → (m : TypeMap) × (nameless_instance m (nameless_constant c ps) ≡ t)
 test-instance c ps t e =

@@ -68,6 +68,7 @@ with_id-front ids c = elim (cases_Bool (has_id c ids)) [
   | inl h ↦ ([], cond-true (has_id c ids) ids (ids ++ c ∷ []) h ∙ sym (append-nil ids))
   | inr h ↦ (c ∷ [], cond-false (has_id c ids) ids (ids ++ c ∷ []) h)
 ]
+
 with_id-kept : (ids : List ℕ) (c q : ℕ) → has_id q ids ≡ true → has_id q (with_id ids c) ≡ true
 with_id-kept ids c q h = let f = with_id-front ids c in ap (has_id q) f.1 ∙ has-front q ids f.0 h
 

@@ -85,11 +85,7 @@ fn first_new(alloc: Global, names: &IndexSet<Name>) -> Result<Name, Memory>
 }
 
 /// vN with the least N such that no free variable of the term has the name.
-pub(crate) fn least_new_name<S: TermStore>(
-    alloc: Global,
-    store: &S,
-    t: Id,
-) -> Result<Name, Memory>
+pub(crate) fn least_new_name<S: TermStore>(alloc: Global, store: &S, t: Id) -> Result<Name, Memory>
     requires { t < length (S.nodes store.now) }
     ensures least { IfOk result (λ x. x ≡ new_name (tree_at (S.nodes store.now) t)) }
     ensures new { IfOk result (λ x. (ty : TypeTree)
