@@ -1,13 +1,14 @@
 """Checks a text of the prelude.
 
 Each item is checked over those before it: each line of each lemma by the twenty rules. Beyond what
-`lt check` asks for, a constant of `constants.py` has that definition, what is registered is the law
-of `laws.py`, and no line of a lemma is idle or gives what an earlier line gave.
+`lt check` asks for, a constant of the tables has their definition, what is registered is a law or
+an axiom of the tables, and no line of a lemma is idle or gives what an earlier line gave.
 """
 
 from collections import Counter
 
 from constants import DEFINITIONS
+from containers import CONTAINERS, PRED_FUN, axioms
 from laws import LAWS
 from printing import show_sequent
 from reading import BadText, Reader
@@ -15,7 +16,8 @@ from rules import ARGUMENTS, Wrong, apply_rule
 from statements import read_body, read_statement
 from theory import Refused, Theory, need
 
-KNOWN = {each.name(): each for each in DEFINITIONS}
+BODIES = {each.name(): each for each in (*DEFINITIONS, PRED_FUN)}
+STATEMENTS = {**LAWS, **{law.label: law for each in CONTAINERS for law in axioms(each)}}
 
 
 class Check:
@@ -49,9 +51,9 @@ class Check:
         self.theory.add_statement(label, term)
 
     def check_def(self, name, type_, body):
-        if name in KNOWN:
-            known = read_body(self.theory, KNOWN[name])
-            need(type_ is known.type and body is known.term, 'not its definition in constants.py')
+        if name in BODIES:
+            known = read_body(self.theory, BODIES[name])
+            need(type_ is known.type and body is known.term, 'another definition')
         self.theory.add_definition(name, type_, body)
 
     def check_lemma(self, label, term, lines):
@@ -100,19 +102,35 @@ class Check:
     # -- registrations
 
     def check_law(self, law, label):
-        need(LAWS.get(law) and LAWS[law].registration == 'law', 'UnknownLaw')
-        self.check_registration(law, label)
+        need(law in STATEMENTS and STATEMENTS[law].registration == 'law', 'UnknownLaw ' + law)
+        self.check_statement(STATEMENTS[law], label)
 
     def check_rule(self, label):
-        self.check_registration(label, label)
+        self.check_registration('rule', label)
 
-    check_property = check_rule
+    def check_property(self, label):
+        self.check_registration('property', label)
 
-    def check_registration(self, law, label):
+    def check_domain(self, label):
+        self.check_registration('domain', label)
+
+    def check_relator(self, name, relator, map_, *labels):
+        known = next((each for each in CONTAINERS if each.name == name), None)
+        need(known and [relator, map_] == known.parts()[:2], 'not a container of containers.py')
+        need(list(labels) == [each.label for each in axioms(known)[:3]], 'other labels')
+        for label in labels:
+            self.check_statement(STATEMENTS[label], label)
+
+    def check_registration(self, word, label):
+        need(label in STATEMENTS and STATEMENTS[label].registration == word, 'not known as that')
+        self.check_statement(STATEMENTS[label], label)
+
+    def check_statement(self, known, label):
+        """The statement of the label is the known one."""
         need(not self.is_plain, 'BadCommand')
         need(label in self.theory.statements, 'UnknownLabel ' + label)
-        known = read_statement(self.theory, LAWS[law].variables, LAWS[law].statement)
-        need(self.theory.statements[label] is known.term, 'LawDiffers')
+        statement = read_statement(self.theory, known.variables, known.statement)
+        need(self.theory.statements[label] is statement.term, 'LawDiffers')
 
 
 def numbers(line):

@@ -4,11 +4,13 @@ Each proof is run, and its theorem compared with the statement of `laws.py`.
 """
 
 from constants import DEFINITIONS
+from containers import CONTAINERS, PRED_FUN, axioms
 from derived import generalize
 from laws import LAWS
+from notation import read_type
 from printing import comment, fill, show_type
-from proofs import (classes, composition, equality, functions, identity, properties, quotients,
-                    transfer, typedefs)
+from proofs import (classes, composition, compounds, equality, functions, identity, properties,
+                    quotients, transfer, typedefs)
 from shortest import shortest
 from statements import read_body, read_statement
 from theorem import PARAMETERS, THEORY, lines
@@ -16,7 +18,7 @@ from theorem import PARAMETERS, THEORY, lines
 PARTS = {             # a part's number -> the modules of its lemmas, in the order of the text
     1: [functions, equality, identity, composition],
     2: [transfer, properties],
-    3: [quotients, typedefs, classes],
+    3: [quotients, typedefs, classes, compounds],
 }
 
 ABOUT = """
@@ -32,15 +34,19 @@ Above each definition and lemma stands what it says, in short:
 A lemma says it for all its variables.
 """
 
+ABOUT_CONTAINERS = 'The axioms of these types are the only ones of this text.'
+
 
 def prelude(last_part, plain):
     """The text of the parts up to the last one, as a theory, or without registrations as plain."""
     blocks = ['plain 1;' if plain else 'theory 1;', note(ABOUT), heading('Constants')]
     blocks += map(definition_text, DEFINITIONS)
-    for number in range(1, last_part + 1):
-        for module in PARTS[number]:
+    for part in range(1, last_part + 1):
+        for module in PARTS[part]:
             blocks.append(heading(module.TOPIC.title))
             blocks += [lemma_text(each, plain) for each in module.TOPIC.proofs]
+        if part == 2:
+            blocks += container_blocks(plain)
     return '\n\n'.join(blocks) + '\n'
 
 
@@ -70,15 +76,49 @@ def lemma_text(proof, plain):
                        statement.variables)
     assert theorem.conclusion is statement.term and not theorem.hypotheses, proof.label
     THEORY.add_statement(law.label, statement.term)
-    parts = [comment(law.statement), comment('Proof: ' + proof.idea),
-             fill('lemma %s : %s {' % (law.label, statement.show())),
-             *[fill(each, '  ', '      ') for each in lines(theorem)], '};']
-    return '\n'.join(parts if plain else parts + REGISTER[law.registration](law.label))
+    text = [comment(law.statement), comment('Proof: ' + proof.idea),
+            fill('lemma %s : %s {' % (law.label, statement.show())),
+            *[fill(each, '  ', '      ') for each in lines(theorem)], '};']
+    return '\n'.join(text if plain else text + registrations(law))
 
 
-REGISTER = {         # the registration of a law -> the commands for its label
-    'law': lambda label: ['law %s %s;' % (label, label)],
-    'rule': lambda label: ['rule %s;' % label],
-    'property': lambda label: ['property %s;' % label],
-    'none': lambda label: [],
-}
+def registrations(law):
+    """The commands that register a law: one or none."""
+    forms = {'none': [], 'law': ['law {0} {0};'], 'rule': ['rule {0};'],
+             'property': ['property {0};'], 'domain': ['domain {0};']}
+    return [each.format(law.label) for each in forms[law.registration]]
+
+
+# ---------------------------------------------------------------- products, sums and lists
+
+def container_blocks(plain):
+    blocks = [heading('Products, sums and lists'), note(ABOUT_CONTAINERS), definition_text(PRED_FUN)]
+    for container in CONTAINERS:
+        blocks.append(declarations(container))
+        blocks += [axiom_text(each, container, plain) for each in axioms(container)]
+    return blocks
+
+
+def declarations(container):
+    """Adds the type and its constants to the theory."""
+    THEORY.add_type(container.name, container.arity)
+    text = ['type %s %d;' % (container.name, container.arity)]
+    for name, written in container.constants.items():
+        type_ = read_type(written, THEORY)
+        THEORY.add_constant(name, type_)
+        text.append('const %s : %s;' % (name, show_type(type_)))
+    return '\n'.join(text)
+
+
+def axiom_text(axiom, container, plain):
+    """Adds an axiom to the theory."""
+    statement = read_statement(THEORY, axiom.variables, axiom.statement)
+    THEORY.add_statement(axiom.label, statement.term)
+    text = [comment(axiom.statement), fill('axiom %s : %s;' % (axiom.label, statement.show()))]
+    if plain:
+        return '\n'.join(text)
+    if axiom.registration == 'relator':
+        relator, map_, _ = container.parts()
+        form = 'relator {0} {1} {2} {0}_eq {0}_quotient {0}_comp;'
+        return '\n'.join([*text, form.format(container.name, relator, map_)])
+    return '\n'.join(text + registrations(axiom))
