@@ -116,7 +116,8 @@ class Check:
 
     def check_relator(self, name, relator, map_, *labels):
         known = next((each for each in CONTAINERS if each.name == name), None)
-        need(known and [relator, map_] == known.parts()[:2], 'not a container of containers.py')
+        need(known, 'not a container')
+        need((relator, map_) == (known.words()['REL'], known.words()['MAP']), 'other constants')
         need(list(labels) == [each.label for each in axioms(known)[:3]], 'other labels')
         for label in labels:
             self.check_statement(STATEMENTS[label], label)

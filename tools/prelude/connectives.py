@@ -110,7 +110,7 @@ def chosen(a):
     return reduce(b) if isinstance(p, Abstraction) else b
 
 
-def related_one(a):
+def chosen_one(a):
     """eps p, and p at eps p, from ex p."""
     return choice(a.conclusion.argument), chosen(a)
 

@@ -18,9 +18,10 @@ class Container(NamedTuple):
     constants: dict      # constructors, then relator, map and predicate, with their types
     rules: dict          # constructor -> what relates it to itself, for relations A and B
 
-    def parts(self):
-        """The relator, the map and the predicate."""
-        return list(self.constants)[-3:]
+    def words(self):
+        """What stands for it and its constants in the forms of axioms."""
+        relator, map_, predicate = list(self.constants)[-3:]
+        return {'K': self.name, 'REL': relator, 'MAP': map_, 'PRED': predicate}
 
 
 CONTAINERS = [
@@ -47,8 +48,8 @@ CONTAINERS = [
         {'nil': 'list_all2 A', 'cons': 'rel_fun A (rel_fun (list_all2 A) (list_all2 A))'}),
 ]
 
-# The forms of the axioms, by arity: K is the type, REL, MAP and PRED are its constants, and p is
-# each of the properties.
+# The forms of the axioms, by arity. There K is the type, REL, MAP and PRED are its constants, and p
+# is each of the properties.
 RELATIONS = {1: 'A : a~b', 2: 'A : a~b, B : c~d'}
 
 FORMS = {
@@ -76,8 +77,8 @@ def axioms(container):
     """The container's axioms, in the order of the text."""
     found = []
     for form in FORMS[container.arity]:
-        for each in PROPERTIES if form.registration == 'property' else ['']:
-            found.append(filled(form, container, each))
+        names = PROPERTIES if form.registration == 'property' else ['']
+        found += [filled(form, container, each) for each in names]
     for constructor, relation in container.rules.items():
         statement = '%s %s %s' % (relation, constructor, constructor)
         variables = RELATIONS[container.arity]
@@ -87,10 +88,8 @@ def axioms(container):
 
 def filled(form, container, property_name):
     """A form for a container and, where it's that of a property, for a property."""
-    relator, map_, predicate = container.parts()
-    words = {'REL': relator, 'MAP': map_, 'PRED': predicate, 'p': property_name}
-    statement = re.sub(r'\w+', lambda found: words.get(found.group(), found.group()), form.statement)
-    label = form.label.replace('K', container.name)
-    if property_name:
-        label = label[:-1] + property_name
+    words = {**container.words(), 'p': property_name}
+    label = form.label.replace('K_p', 'K_' + property_name).replace('K', container.name)
+    statement = re.sub(r'\w+', lambda found: words.get(found.group(), found.group()),
+                       form.statement)
     return form._replace(label=label, statement=statement)

@@ -8,10 +8,10 @@ an instance of that. `shortest.py` chooses for each lemma what is switched.
 from contextlib import contextmanager
 from functools import cached_property
 
-from terms import (Application, Free, TypeVariable, has_variable, instantiate_type, match_type, type_variables,
-                   term_type_variables, universal_parts)
-from theorem import (AT_HAND, THEORY, allE, allI, assume, declare, impI, inst, mp, statement, thm, tinst,
-                     type_of)
+from terms import (Application, Free, TypeVariable, has_variable, instantiate_type, match_type,
+                   term_type_variables, type_variables, universal_parts)
+from theorem import (AT_HAND, THEORY, allE, allI, assume, declare, impI, inst, mp, statement, thm,
+                     tinst, type_of)
 
 
 # ---------------------------------------------------------------- several steps of one rule
@@ -155,12 +155,13 @@ class DerivedRule:
 class Fact(DerivedRule):
     """A derived rule under the hypotheses of the lemma at hand.
 
-    It's called with theorems of its premises, which tell the terms, or with terms where it has none.
+    It's called with theorems of its premises, which tell the terms. Where it has no premise, it's
+    called with the terms.
     """
 
     def __call__(self, *given):
-        return super().__call__(*self.terms(given), *given) if self.premises else (
-            super().__call__(*given))
+        terms = self.terms(given) if self.premises else []
+        return super().__call__(*terms, *given)
 
     def terms(self, theorems):
         found = {}

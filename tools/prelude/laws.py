@@ -1,4 +1,4 @@
-"""What the prelude states, in the short notation. The text's order is that of the proofs.
+"""What the prelude states, in the text's order and in the short notation.
 
 A statement is closed by `all` over its variables, in their order.
 """
@@ -84,6 +84,8 @@ PART_3 = [
     Law('law', 'typedef_bi_unique', 'A : a -> b, B : b -> a, T : a~b',
         r'(all y. A (B y) = y) --> T = (\x y. x = B y) --> bi_unique T'),
     Law('law', 'typedef_domain', TYPEDEF, INVERSES + 'Domainp T = P'),
+    Law('law', 'typedef_rep_abs', TYPEDEF + ', x : a',
+        'Quotient (eq_onp P) A B T --> eq_onp P x x --> B (A x) = x'),
     Law('law', 'class_nonempty', 'R : a~a',
         r'part_equivp R --> %s (R (eps (\x. R x x)))' % IS_CLASS),
     Law('law', 'class_quotient',
@@ -91,8 +93,6 @@ PART_3 = [
         r'part_equivp R --> (all y. {0} (L y)) --> (all y. K (L y) = y) '
         r'--> (all C. {0} C --> L (K C) = C) --> A = (\x. K (R x)) --> B = (\y. eps (L y)) '
         r'--> T = (\x y. and (R x x) (A x = y)) --> Quotient R A B T'.format(IS_CLASS)),
-    Law('law', 'typedef_rep_abs', TYPEDEF + ', x : a',
-        'Quotient (eq_onp P) A B T --> eq_onp P x x --> B (A x) = x'),
     Law('law', 'fun_quotient', FUNCTION_QUOTIENTS, TWO_QUOTIENTS +
         'Quotient (rel_fun R1 R2) (map_fun B1 A2) (map_fun A1 B2) (rel_fun T1 T2)'),
     Law('law', 'quotient_compose', CHAINED_QUOTIENTS, TWO_QUOTIENTS +

@@ -6,19 +6,19 @@ Each proof is run, and its theorem compared with the statement of `laws.py`.
 from constants import DEFINITIONS
 from containers import CONTAINERS, PRED_FUN, axioms
 from derived import generalize
-from laws import LAWS
+from laws import LAWS, PART_1, PART_2, PART_3
 from notation import read_type
-from printing import comment, fill, show_type
+from printing import comment, fill, show_sequent, show_type
 from proofs import (classes, composition, compounds, equality, functions, identity, properties,
                     quotients, transfer, typedefs)
 from shortest import shortest
 from statements import read_body, read_statement
 from theorem import PARAMETERS, THEORY, lines
 
-PARTS = {             # a part's number -> the modules of its lemmas, in the order of the text
-    1: [functions, equality, identity, composition],
-    2: [transfer, properties],
-    3: [quotients, typedefs, classes, compounds],
+PARTS = {             # a part's number -> its laws, and the modules of their proofs
+    1: (PART_1, [functions, equality, identity, composition]),
+    2: (PART_2, [transfer, properties]),
+    3: (PART_3, [quotients, typedefs, classes, compounds]),
 }
 
 ABOUT = """
@@ -42,9 +42,7 @@ def prelude(last_part, plain):
     blocks = ['plain 1;' if plain else 'theory 1;', note(ABOUT), heading('Constants')]
     blocks += map(definition_text, DEFINITIONS)
     for part in range(1, last_part + 1):
-        for module in PARTS[part]:
-            blocks.append(heading(module.TOPIC.title))
-            blocks += [lemma_text(each, plain) for each in module.TOPIC.proofs]
+        blocks += lemma_blocks(*PARTS[part], plain)
         if part == 2:
             blocks += container_blocks(plain)
     return '\n\n'.join(blocks) + '\n'
@@ -58,6 +56,8 @@ def heading(title):
     return '# ---- %s ----' % title
 
 
+# ---------------------------------------------------------------- definitions
+
 def definition_text(definition):
     """Adds a definition to the theory."""
     name, body = definition.name(), read_body(THEORY, definition)
@@ -68,13 +68,32 @@ def definition_text(definition):
                       fill(':= %s;' % body.show(), '    ', '       ')])
 
 
-def lemma_text(proof, plain):
+# ---------------------------------------------------------------- lemmas
+
+class NotProved(Exception):
+    """A law that isn't proved, or a proof that doesn't give its law."""
+
+
+def lemma_blocks(laws, modules, plain):
+    stated = [law.label for law in laws]
+    proved = [each.label for module in modules for each in module.TOPIC.proofs]
+    if stated != proved:
+        raise NotProved('stated are %s, but proved %s' % (stated, proved))
+    return [block for module in modules for block in topic_blocks(module.TOPIC, plain)]
+
+
+def topic_blocks(topic, plain):
+    return [heading(topic.title), *(lemma_text(LAWS[each.label], each, plain)
+                                    for each in topic.proofs)]
+
+
+def lemma_text(law, proof, plain):
     """Proves a law, and adds its statement to the theory."""
-    law = LAWS[proof.label]
     statement = read_statement(THEORY, law.variables, law.statement)
     theorem = shortest(lambda *variables: generalize(proof.prove(*variables), *variables),
                        statement.variables)
-    assert theorem.conclusion is statement.term and not theorem.hypotheses, proof.label
+    if theorem.sequent() != ((), statement.term):
+        raise NotProved('the proof of %s gives %s' % (law.label, show_sequent(theorem.sequent())))
     THEORY.add_statement(law.label, statement.term)
     text = [comment(law.statement), comment('Proof: ' + proof.idea),
             fill('lemma %s : %s {' % (law.label, statement.show())),
@@ -82,17 +101,19 @@ def lemma_text(proof, plain):
     return '\n'.join(text if plain else text + registrations(law))
 
 
-def registrations(law):
-    """The commands that register a law: one or none."""
+def registrations(law, **words):
+    """The commands that register a law, or an axiom with its container's words: one or none."""
     forms = {'none': [], 'law': ['law {0} {0};'], 'rule': ['rule {0};'],
-             'property': ['property {0};'], 'domain': ['domain {0};']}
-    return [each.format(law.label) for each in forms[law.registration]]
+             'property': ['property {0};'], 'domain': ['domain {0};'],
+             'relator': ['relator {K} {REL} {MAP} {K}_eq {K}_quotient {K}_comp;']}
+    return [each.format(law.label, **words) for each in forms[law.registration]]
 
 
 # ---------------------------------------------------------------- products, sums and lists
 
 def container_blocks(plain):
-    blocks = [heading('Products, sums and lists'), note(ABOUT_CONTAINERS), definition_text(PRED_FUN)]
+    blocks = [heading('Products, sums and lists'), note(ABOUT_CONTAINERS),
+              definition_text(PRED_FUN)]
     for container in CONTAINERS:
         blocks.append(declarations(container))
         blocks += [axiom_text(each, container, plain) for each in axioms(container)]
@@ -115,10 +136,4 @@ def axiom_text(axiom, container, plain):
     statement = read_statement(THEORY, axiom.variables, axiom.statement)
     THEORY.add_statement(axiom.label, statement.term)
     text = [comment(axiom.statement), fill('axiom %s : %s;' % (axiom.label, statement.show()))]
-    if plain:
-        return '\n'.join(text)
-    if axiom.registration == 'relator':
-        relator, map_, _ = container.parts()
-        form = 'relator {0} {1} {2} {0}_eq {0}_quotient {0}_comp;'
-        return '\n'.join([*text, form.format(container.name, relator, map_)])
-    return '\n'.join(text + registrations(axiom))
+    return '\n'.join(text if plain else text + registrations(axiom, **container.words()))

@@ -7,6 +7,7 @@ are one object, and `is` tells equality.
 
 
 class Node:
+    """A type or a term, made once for each class and each value of the parts."""
     __slots__ = ()
     made = {}
 

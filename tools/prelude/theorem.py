@@ -6,7 +6,7 @@ theorem within a lemma, and `lines` gives only what the last one needs: no line 
 """
 
 from inference import term_of
-from notation import read_tree, read_type, read_variables
+from notation import read_tree, read_variables
 from printing import show_line
 from rules import Sequent, apply_rule
 from terms import BOOL, Free
@@ -96,10 +96,6 @@ def term(text, type_=None):
 
 def statement(text):
     return term(text, BOOL)
-
-
-def type_at(text):
-    return read_type(text, THEORY)
 
 
 def type_of(t):

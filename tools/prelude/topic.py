@@ -4,8 +4,8 @@ from typing import NamedTuple
 
 
 class Proof(NamedTuple):
-    label: str
-    idea: str            # how the proof goes, in a sentence
+    label: str           # of the law that it proves
+    idea: str            # how it goes, in a sentence
     prove: object        # takes the variables of the law, and answers the theorem for these
 
 
@@ -13,9 +13,9 @@ class Topic:
     def __init__(self, title):
         self.title, self.proofs = title, []
 
-    def lemma(self, label, idea):
-        """Adds the decorated proof, in the order of the text."""
+    def lemma(self, idea):
+        """Adds the decorated proof, which is named by its law. The text has this order."""
         def add(prove):
-            self.proofs.append(Proof(label, idea, prove))
+            self.proofs.append(Proof(prove.__name__, idea, prove))
             return prove
         return add

@@ -21,8 +21,8 @@ def is_class(goal, x, related):
     return as_value(predicate, C, some)
 
 
-@TOPIC.lemma('class_nonempty', 'Some x has R x x, so the chosen one has it, and its class is one.')
-def _(R):
+@TOPIC.lemma('Some x has R x x, so the chosen one has it, and its class is one.')
+def class_nonempty(R):
     premise = statement('part_equivp R')
     some = left(unfold(assume(premise)))
     goal = statement(IS_CLASS + r' (R (eps (\x. R x x)))')
@@ -62,9 +62,9 @@ class PartialEquivalence:
         return extend(self.z, same)
 
 
-@TOPIC.lemma('class_quotient', 'Each L y is R x for some x with R x x, so B y is related to x and '
-             'R (B y) is L y. Where A takes r and s to one value, R r is R s, since L undoes K.')
-def _(R, K, L, A, B, T):
+@TOPIC.lemma('Each L y is R x for some x with R x x, so B y is related to x and R (B y) is L y. '
+             'Where A takes r and s to one value, R r is R s, since L undoes K.')
+def class_quotient(R, K, L, A, B, T):
     y, r, s, u = declare('y : b, r : a, s : a, u : a')
     premises = [statement(each.replace('IS_CLASS', IS_CLASS)) for each in (
         'part_equivp R', 'all y. IS_CLASS (L y)', 'all y. K (L y) = y',

@@ -11,15 +11,15 @@ from topic import Topic
 TOPIC = Topic('The composition of relations')
 
 
-@TOPIC.lemma('relcompp_intro', 'y stands between x and z.')
-def _(R, S, x, y, z):
+@TOPIC.lemma('y stands between x and z.')
+def relcompp_intro(R, S, x, y, z):
     p, q = statement('R x y'), statement('S y z')
     some = exists(term(r'\y. and (R x y) (S y z)'), y, conjunction(assume(p), assume(q)))
     return discharge(fold(statement('relcompp R S x z'), some), p, q)
 
 
-@TOPIC.lemma('relcompp_eq_left', 'What stands between x and z is x itself.')
-def _(T):
+@TOPIC.lemma('What stands between x and z is x itself.')
+def relcompp_eq_left(T):
     x, y, z = declare('x : a, y : a, z : b')
 
     def direct(xy, yz):
@@ -29,8 +29,8 @@ def _(T):
     return extend(x, extend(z, same))
 
 
-@TOPIC.lemma('relcompp_eq_right', 'What stands between x and z is z itself.')
-def _(R):
+@TOPIC.lemma('What stands between x and z is z itself.')
+def relcompp_eq_right(R):
     x, y, z = declare('x : a, y : b, z : b')
 
     def direct(xy, yz):
@@ -40,8 +40,8 @@ def _(R):
     return extend(x, extend(z, same))
 
 
-@TOPIC.lemma('relcompp_assoc', 'On both sides y and z stand between x and w.')
-def _(R, S, T):
+@TOPIC.lemma('On both sides y and z stand between x and w.')
+def relcompp_assoc(R, S, T):
     x, y, z, w = declare('x : a, y : b, z : c, w : d')
 
     def to_right(xw):
@@ -56,9 +56,8 @@ def _(R, S, T):
     return extend(x, extend(w, same))
 
 
-@TOPIC.lemma('rel_fun_distr', 'With g between f and h, and y between x and z, g y stands '
-                   'between f x and h z.')
-def _(R, S, U, V, f, h):
+@TOPIC.lemma('With g between f and h, and y between x and z, g y stands between f x and h z.')
+def rel_fun_distr(R, S, U, V, f, h):
     g, x, y, z = declare('g : b -> d, x : a, y : b, z : e')
     premise = statement('relcompp (rel_fun R S) (rel_fun U V) f h')
 

@@ -20,9 +20,9 @@ def two_quotients(premises):
     return first, Copy(first, assume(premises[1]))
 
 
-@TOPIC.lemma('fun_quotient', 'Related functions take related arguments to related values; this '
-             'gives the facts about the correspondence of which Quotient is made.')
-def _(R1, A1, B1, T1, R2, A2, B2, T2):
+@TOPIC.lemma('Related functions take related arguments to related values; this gives the facts '
+             'about the correspondence of which Quotient is made.')
+def fun_quotient(R1, A1, B1, T1, R2, A2, B2, T2):
     premises = [statement(each) for each in TWO_QUOTIENTS]
     first, second = two_quotients(premises)
     x, x1, y, f, g, h = declare('x : a, x1 : a, y : c, f : a -> b, g : a -> b, h : c -> d')
@@ -72,9 +72,9 @@ def _(R1, A1, B1, T1, R2, A2, B2, T2):
     return discharge(from_facts(R, A, B, T, 'fgh', of_rep, *facts), *premises)
 
 
-@TOPIC.lemma('quotient_compose', 'With the elements that stand between, the facts about both '
-             'correspondences give those of which Quotient is made.')
-def _(R1, A1, B1, T1, R2, A2, B2, T2):
+@TOPIC.lemma('With the elements that stand between, the facts about both correspondences give '
+             'those of which Quotient is made.')
+def quotient_compose(R1, A1, B1, T1, R2, A2, B2, T2):
     premises = [statement(each) for each in TWO_QUOTIENTS]
     first, second = two_quotients(premises)
     r, s, y, y1, z = declare('r : a, s : a, y : b, y1 : b, z : c')
@@ -104,7 +104,7 @@ def _(R1, A1, B1, T1, R2, A2, B2, T2):
             ys, y1, lambda yy, backwards: related(ry, yy, unfold(backwards))))
 
     def meet(r, s, z, rz, sz):
-        def related(ry, yz, sy, y1z):                                   # T1 r y, T2 y z, T1 s y1, ..
+        def related(ry, yz, sy, y1z):                           # T1 r y, T2 y z, T1 s y1, T2 y1 z
             backwards = fold(apply(term('conversep T1'), y1, s), sy)
             return composed(ry, composed(second.meet(yz, y1z), backwards))
         return between(rz, y, lambda ry, yz: between(
@@ -118,9 +118,9 @@ def _(R1, A1, B1, T1, R2, A2, B2, T2):
     return discharge(quotient, *premises)
 
 
-@TOPIC.lemma('abs_eq_step', 'By fun_quotient t corresponds to its image, so t x corresponds to the '
-             'value of the image at A1 x, and to A2 (t x) too.')
-def _(R1, A1, B1, T1, R2, A2, B2, T2, t, x):
+@TOPIC.lemma('By fun_quotient t corresponds to its image, so t x corresponds to the value of the '
+             'image at A1 x, and to A2 (t x) too.')
+def abs_eq_step(R1, A1, B1, T1, R2, A2, B2, T2, t, x):
     premises = [statement(each) for each in (*TWO_QUOTIENTS, 'rel_fun R1 R2 t t', 'R1 x x')]
     of_first, of_second, tt, xx = map(assume, premises)
     first, second = Quotient(of_first), Quotient(of_second)

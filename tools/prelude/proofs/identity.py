@@ -1,28 +1,27 @@
 """Laws of id and map_fun, and the quotient by equality."""
 
 from connectives import conjunction, right
-from derived import at, generalize, law
+from derived import generalize, law
 from equations import both_ways, extend, fold, unfolding
-from relations import between
 from theorem import cong, declare, refl, statement, sym, term, trans
 from topic import Topic
 
-TOPIC = Topic('The identity, functions between functions, and the quotient by equality')
+TOPIC = Topic('The identity, map_fun, and the quotient by equality')
 
 
-@TOPIC.lemma('id_apply', 'The definition of id, at x.')
-def _(x):
+@TOPIC.lemma('The definition of id, at x.')
+def id_apply(x):
     return unfolding(term('id x'))
 
 
-@TOPIC.lemma('map_fun_apply', 'The definition of map_fun, at f, g, h and x.')
-def _(f, g, h, x):
+@TOPIC.lemma('The definition of map_fun, at f, g, h and x.')
+def map_fun_apply(f, g, h, x):
     return unfolding(term('map_fun f g h x'))
 
 
-@TOPIC.lemma('id_quotient', 'id undoes id, equality is reflexive, and what Quotient adds to '
-                'r = s and x = y is true.')
-def _():
+@TOPIC.lemma('id undoes id, equality is reflexive, and what Quotient adds to r = s and x = y is '
+             'true.')
+def id_quotient():
     r, s, x, y = declare('r : a, s : a, x : a, y : a')
     identity, id_r, id_x = refl(term('id[a]')), law('id_apply', r), law('id_apply', x)
     undone = trans(law('id_apply', term('id y')), law('id_apply', y))

@@ -1,6 +1,6 @@
 """Properties of related functions."""
 
-from connectives import chosen, conjunction, exists, left, related_one, right
+from connectives import chosen, conjunction, exists, left, chosen_one, right
 from derived import at, discharge, generalize, law
 from equations import as_value, at_equals, extend, fold, reduce, unfold
 from relations import related_functions, related_values
@@ -16,9 +16,9 @@ def chosen_from(p, t, a):
     return reduce(mp(at(select(p), t), as_value(p, t, a)))
 
 
-@TOPIC.lemma('fun_left_total', 'To f is related the function that takes y to some z with '
-             'B (f x) z, where x is chosen with A x y.')
-def _(A, B):
+@TOPIC.lemma('To f is related the function that takes y to some z with B (f x) z, where x is '
+             'chosen with A x y.')
+def fun_left_total(A, B):
     x, y, f = declare('x : a, y : b, f : a -> c')
     premises = [statement('left_unique A'), statement('left_total B')]
     unique, total = [unfold(assume(each)) for each in premises]
@@ -35,9 +35,9 @@ def _(A, B):
     return discharge(fold(statement('left_total (rel_fun A B)'), some), *premises)
 
 
-@TOPIC.lemma('fun_right_total', 'To g is related the function that takes x to some z with '
-             'B z (g y), where y is chosen with A x y.')
-def _(A, B):
+@TOPIC.lemma('To g is related the function that takes x to some z with B z (g y), where y is '
+             'chosen with A x y.')
+def fun_right_total(A, B):
     x, y, g = declare('x : a, y : b, g : b -> d')
     premises = [statement('right_unique A'), statement('right_total B')]
     unique, total = [unfold(assume(each)) for each in premises]
@@ -54,14 +54,13 @@ def _(A, B):
     return discharge(fold(statement('right_total (rel_fun A B)'), some), *premises)
 
 
-@TOPIC.lemma('fun_left_unique', 'For each x some related y shows that both functions have the same '
-             'value.')
-def _(A, B):
+@TOPIC.lemma('For each x some related y shows that both functions have the same value.')
+def fun_left_unique(A, B):
     x, f, g, k = declare('x : a, f : a -> c, g : a -> c, k : b -> d')
     premises = [statement('left_total A'), statement('left_unique B')]
     total, unique = [unfold(assume(each)) for each in premises]
     p, q = statement('rel_fun A B f k'), statement('rel_fun A B g k')
-    y, xy = related_one(at(total, x))
+    y, xy = chosen_one(at(total, x))
     fx, gx, ky = Application(f, x), Application(g, x), Application(k, y)
     same = mp(at(unique, fx, gx, ky),
               related_values(assume(p), x, y, xy), related_values(assume(q), x, y, xy))
@@ -69,14 +68,13 @@ def _(A, B):
     return discharge(fold(statement('left_unique (rel_fun A B)'), all_same), *premises)
 
 
-@TOPIC.lemma('fun_right_unique', 'For each y some related x shows that both functions have the '
-             'same value.')
-def _(A, B):
+@TOPIC.lemma('For each y some related x shows that both functions have the same value.')
+def fun_right_unique(A, B):
     y, f, g, k = declare('y : b, f : a -> c, g : b -> d, k : b -> d')
     premises = [statement('right_total A'), statement('right_unique B')]
     total, unique = [unfold(assume(each)) for each in premises]
     p, q = statement('rel_fun A B f g'), statement('rel_fun A B f k')
-    x, xy = related_one(at(total, y))
+    x, xy = chosen_one(at(total, y))
     fx, gy, ky = Application(f, x), Application(g, y), Application(k, y)
     same = mp(at(unique, fx, gy, ky),
               related_values(assume(p), x, y, xy), related_values(assume(q), x, y, xy))
@@ -93,11 +91,11 @@ def from_halves(of_a, of_b, A, B):
     return discharge(fold(statement('bi_%s (rel_fun A B)' % of_b), both), *premises)
 
 
-@TOPIC.lemma('fun_bi_total', 'Both halves stand above.')
-def _(A, B):
+@TOPIC.lemma('Both halves stand above.')
+def fun_bi_total(A, B):
     return from_halves('unique', 'total', A, B)
 
 
-@TOPIC.lemma('fun_bi_unique', 'Both halves stand above.')
-def _(A, B):
+@TOPIC.lemma('Both halves stand above.')
+def fun_bi_unique(A, B):
     return from_halves('total', 'unique', A, B)

@@ -12,21 +12,21 @@ from topic import Topic
 TOPIC = Topic('What a quotient gives')
 
 
-@TOPIC.lemma('quotient_rep', 'The second part of Quotient.')
-def _(R, A, B, T):
+@TOPIC.lemma('The second part of Quotient.')
+def quotient_rep(R, A, B, T):
     premise = statement('Quotient R A B T')
     return discharge(Quotient(assume(premise)).part(2), premise)
 
 
-@TOPIC.lemma('quotient_lift', 'The fourth part of Quotient, from the right to the left.')
-def _(R, A, B, T, t, c):
+@TOPIC.lemma('The fourth part of Quotient, from the right to the left.')
+def quotient_lift(R, A, B, T, t, c):
     premises = [statement('Quotient R A B T'), statement('R t t'), statement('c = A t')]
     quotient, related, equal = map(assume, premises)
     return discharge(Quotient(quotient).corresponding(related, sym(equal)), *premises)
 
 
-@TOPIC.lemma('quotient_right_total', 'B y is related to y.')
-def _(R, A, B, T):
+@TOPIC.lemma('B y is related to y.')
+def quotient_right_total(R, A, B, T):
     y, = declare('y : b')
     premise = statement('Quotient R A B T')
     quotient = Quotient(assume(premise))
@@ -34,9 +34,9 @@ def _(R, A, B, T):
     return discharge(fold(statement('right_total T'), generalize(some, y)), premise)
 
 
-@TOPIC.lemma('quotient_rel', 'A x is y by T x y, and A x1 is y1 by T x1 y1; R relates x and x1 '
-             'where these are equal.')
-def _(R, A, B, T):
+@TOPIC.lemma('A x is y by T x y, and A x1 is y1 by T x1 y1; R relates x and x1 where these are '
+             'equal.')
+def quotient_rel(R, A, B, T):
     x, y, x1, y1 = declare('x : a, y : b, x1 : a, y1 : b')
     premise = statement('Quotient R A B T')
     quotient = Quotient(assume(premise))
@@ -56,8 +56,8 @@ def _(R, A, B, T):
     return discharge(related, premise)
 
 
-@TOPIC.lemma('quotient_right_unique', 'By quotient_rel, y = y is R x x, and R x x is y = z.')
-def _(R, A, B, T):
+@TOPIC.lemma('By quotient_rel, y = y is R x x, and R x x is y = z.')
+def quotient_right_unique(R, A, B, T):
     x, y, z = declare('x : a, y : b, z : b')
     premise, p, q = statement('Quotient R A B T'), statement('T x y'), statement('T x z')
     quotient, xy, xz = Quotient(assume(premise)), assume(p), assume(q)
@@ -66,8 +66,8 @@ def _(R, A, B, T):
     return discharge(fold(statement('right_unique T'), unique), premise)
 
 
-@TOPIC.lemma('quotient_domain', 'x is related to some y where R x x holds, and then to A x.')
-def _(R, A, B, T):
+@TOPIC.lemma('x is related to some y where R x x holds, and then to A x.')
+def quotient_domain(R, A, B, T):
     x, y = declare('x : a, y : b')
     premise = statement('Quotient R A B T')
     quotient = Quotient(assume(premise))

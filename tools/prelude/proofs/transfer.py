@@ -1,6 +1,6 @@
 """Rules of equality and quantifiers over related types."""
 
-from connectives import choice, chosen, exists, halves, related_one, with_some
+from connectives import choice, chosen, exists, halves, chosen_one, with_some
 from derived import at, discharge, generalize
 from equations import (at_equals, both_ways, fold, from_predicate, right_side, unfold, values)
 from relations import related_functions, related_values
@@ -22,9 +22,9 @@ def over_predicates(A, R, f, g, body):
         lambda related: body(P, Q, lambda x, y, xy: related_values(related, x, y, xy)))
 
 
-@TOPIC.lemma('eq_transfer', 'x = y gives the equality of what they are related to by right '
-             'uniqueness, and the other way by left uniqueness.')
-def _(A):
+@TOPIC.lemma('x = y gives the equality of what they are related to by right uniqueness, and the '
+             'other way by left uniqueness.')
+def eq_transfer(A):
     x, x1, y, y1 = declare('x : a, x1 : b, y : a, y1 : b')
     premise = statement('bi_unique A')
     left_unique, right_unique = halves(assume(premise))
@@ -45,9 +45,8 @@ def _(A):
     return discharge(related, premise)
 
 
-@TOPIC.lemma('all_transfer', 'Each y has a related x and each x a related y, where both predicates '
-             'agree.')
-def _(A):
+@TOPIC.lemma('Each y has a related x and each x a related y, where both predicates agree.')
+def all_transfer(A):
     x, y = declare('x : a, y : b')
     premise = statement('bi_total A')
     from_x, from_y = halves(assume(premise))
@@ -65,29 +64,29 @@ def _(A):
     return discharge(related, premise)
 
 
-@TOPIC.lemma('ex_transfer', 'A witness on one side has a related one on the other side.')
-def _(A):
+@TOPIC.lemma('A witness on one side has a related one on the other side.')
+def ex_transfer(A):
     premise = statement('bi_total A')
     from_x, from_y = halves(assume(premise))
 
     def body(P, Q, same):
         def forth(some):
             x = choice(P)
-            y, xy = related_one(at(from_x, x))
+            y, xy = chosen_one(at(from_x, x))
             return exists(Q, y, eqmp(same(x, y, xy), chosen(some)))
 
         def back(some):
             y = choice(Q)
-            x, xy = related_one(at(from_y, y))
+            x, xy = chosen_one(at(from_y, y))
             return exists(P, x, eqmp(sym(same(x, y, xy)), chosen(some)))
         return both_ways(statement('ex P'), statement('ex Q'), forth, back)
     related = over_predicates(A, term('eq[bool]'), term('ex[a]'), term('ex[b]'), body)
     return discharge(related, premise)
 
 
-@TOPIC.lemma('all_bounded', 'Each y has a related x, which is in the domain, and each x of the '
-             'domain has a related y.')
-def _(A):
+@TOPIC.lemma('Each y has a related x, which is in the domain, and each x of the domain has a '
+             'related y.')
+def all_bounded(A):
     x, y = declare('x : a, y : b')
     premise = statement('right_total A')
     from_y = unfold(assume(premise))
@@ -111,15 +110,15 @@ def _(A):
     return discharge(related, premise)
 
 
-@TOPIC.lemma('all_implies', 'Each y has a related x.')
-def _(A):
+@TOPIC.lemma('Each y has a related x.')
+def all_implies(A):
     y, = declare('y : b')
     premise = statement('right_total A')
     from_y = unfold(assume(premise))
 
     def body(P, Q, same):
         each = statement('all P')
-        x, xy = related_one(at(from_y, y))
+        x, xy = chosen_one(at(from_y, y))
         holds = eqmp(same(x, y, xy), at(assume(each), x))
         return discharge(from_predicate(generalize(holds, y)), each)
     related = over_predicates(A, term('imp'), term('all[a]'), term('all[b]'), body)

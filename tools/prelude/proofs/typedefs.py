@@ -14,8 +14,8 @@ INVERSES = ['all y. P (B y)', 'all y. A (B y) = y', 'all r. P r --> B (A r) = r'
             r'T = (\x y. x = B y)']
 
 
-@TOPIC.lemma('typedef_quotient', 'eq_onp P is equality of those with P, where B undoes A.')
-def _(P, A, B, T):
+@TOPIC.lemma('eq_onp P is equality of those with P, where B undoes A.')
+def typedef_quotient(P, A, B, T):
     r, s, x, y, u = declare('r : a, s : a, x : a, y : b, u : a')
     premises = [statement(each) for each in INVERSES]
     inside, undone, redone, meaning = map(assume, premises)
@@ -57,8 +57,8 @@ def _(P, A, B, T):
     return discharge(quotient, *premises)
 
 
-@TOPIC.lemma('typedef_bi_unique', 'x is B y, and y is A (B y).')
-def _(A, B, T):
+@TOPIC.lemma('x is B y, and y is A (B y).')
+def typedef_bi_unique(A, B, T):
     x, x1, y, z, u, w = declare('x : a, x1 : a, y : b, z : b, u : a, w : b')
     premises = [statement(each) for each in (INVERSES[1], INVERSES[3])]
     undone, meaning = map(assume, premises)
@@ -78,8 +78,8 @@ def _(A, B, T):
     return discharge(fold(statement('bi_unique T'), both), *premises)
 
 
-@TOPIC.lemma('typedef_domain', 'Each B y has P, and each x with P is B (A x).')
-def _(P, A, B, T):
+@TOPIC.lemma('Each B y has P, and each x with P is B (A x).')
+def typedef_domain(P, A, B, T):
     x, = declare('x : a')
     premises = [statement(each) for each in INVERSES]
     inside, _, redone, meaning = map(assume, premises)
@@ -96,9 +96,8 @@ def _(P, A, B, T):
     return discharge(extend(x, trans(unfolding(statement('Domainp T x')), same)), *premises)
 
 
-@TOPIC.lemma('typedef_rep_abs', 'eq_onp P relates B (A x) and x, since A takes both to one value; '
-             'so they are equal.')
-def _(P, A, B, T, x):
+@TOPIC.lemma('eq_onp P relates B (A x) and x, since A takes both to one value; so they are equal.')
+def typedef_rep_abs(P, A, B, T, x):
     premises = [statement('Quotient (eq_onp P) A B T'), statement('eq_onp P x x')]
     quotient, related = Quotient(assume(premises[0])), assume(premises[1])
     image = Application(A, x)
