@@ -24,6 +24,8 @@ def check(given):
             checker.check_text(file.read())
     except BadText as bad:
         sys.exit('%s:%d: %s' % (given.file, bad.line, bad.reason))
+    except (OSError, UnicodeDecodeError) as fault:
+        sys.exit('%s: %s' % (given.file, fault))
     print(' '.join('%s %d' % each for each in sorted(checker.counts.items())))
 
 

@@ -10,6 +10,7 @@ from collections import Counter
 from constants import DEFINITIONS
 from containers import CONTAINERS, PRED_FUN, axioms
 from laws import LAWS
+from notation import BadNotation
 from printing import show_sequent
 from reading import BadText, Reader
 from rules import ARGUMENTS, Wrong, apply_rule
@@ -34,7 +35,7 @@ class Check:
     def check_command(self, command):
         try:
             getattr(self, 'check_' + command.word)(*command.parts)
-        except Refused as refused:
+        except (Refused, BadNotation) as refused:
             told = '%s %s: %s' % (command.word, command.parts[0], refused)
             raise BadText(command.line, told) from refused
         self.counts[command.word] += 1

@@ -1,6 +1,6 @@
 """The types that the short notation leaves out: those that the constants and variables force."""
 
-from notation import Binder, Name, Value
+from notation import Binder, Name, Value, need
 from terms import (Abstraction, Application, Bound, Constant, Free, TypeConstructor, TypeVariable,
                    function_type, type_variables)
 
@@ -30,15 +30,15 @@ def unify(first, second):
 
 
 def unify_constructors(first, second):
-    assert TypeVariable not in (type(first), type(second)), 'types differ'
-    assert first.name == second.name, 'types differ'
+    need(TypeVariable not in (type(first), type(second)), 'types differ')
+    need(first.name == second.name, 'types differ')
     for pair in zip(first.arguments, second.arguments):
         unify(*pair)
 
 
 def without_holes(type_):
     type_ = known(type_)
-    assert not isinstance(type_, Hole), 'a type is not forced'
+    need(not isinstance(type_, Hole), 'a type is not forced')
     if isinstance(type_, TypeVariable):
         return type_
     return TypeConstructor(type_.name, tuple(map(without_holes, type_.arguments)))
@@ -81,7 +81,7 @@ class Inference:
             return type_, lambda: Free(name, type_)
 
     def constant(self, name, types):
-        assert name in self.theory.constants, 'no variable or constant ' + name
+        need(name in self.theory.constants, 'no variable or constant ' + name)
         type_ = self.theory.constants[name]
         holes = {each: Hole() for each in type_variables(type_)}
         for hole, written in zip(holes.values(), types):

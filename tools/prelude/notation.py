@@ -13,6 +13,16 @@ from typing import NamedTuple
 
 from terms import TypeConstructor, TypeVariable, function_type, relation_type
 
+
+class BadNotation(Exception):
+    """What is wrong with a text in the short notation."""
+
+
+def need(condition, *told):
+    if not condition:
+        raise BadNotation(*told)
+
+
 TOKEN = re.compile(r'-->|->|\w+|[()\[\]\\.,=~:]')
 
 
@@ -55,14 +65,14 @@ def binder_names(tree):
 class Reader:
     def __init__(self, text, theory):
         self.tokens, self.at, self.theory = TOKEN.findall(text), 0, theory
-        assert ''.join(self.tokens) == re.sub(r'\s', '', text), text
+        need(''.join(self.tokens) == re.sub(r'\s', '', text), 'a character of no token', text)
 
     def peek(self):
         return self.tokens[self.at] if self.at < len(self.tokens) else None
 
     def take(self):
         token = self.peek()
-        assert token is not None, self.tokens
+        need(token is not None, 'the end is too early', self.tokens)
         self.at += 1
         return token
 
@@ -72,11 +82,11 @@ class Reader:
         return found
 
     def expect(self, token):
-        assert self.accept(token), (token, self.tokens[self.at:], self.tokens)
+        need(self.accept(token), token + ' is wanted', self.tokens[self.at:])
 
     def whole(self, read):
         found = read()
-        assert self.peek() is None, (self.tokens[self.at:], self.tokens)
+        need(self.peek() is None, 'something stands behind the end', self.tokens[self.at:])
         return found
 
     # -- types
