@@ -31,7 +31,8 @@ Above each definition and lemma stands what it says, in short:
   p --> q      for (imp p q); it is right associative and weaker than =
   \\x y. t      for (\\x T (\\y U t)), where T and U are the types of x and y
   all x y. p   for (all[T] (\\x T (all[U] (\\y U p)))), and ex x. p likewise
-A lemma says it for all its variables.
+A lemma says it for all its variables. In a derivation a binder is named by the number of binders
+around it.
 """
 
 ABOUT_CONTAINERS = 'The axioms of these types are the only ones of this text.'
@@ -127,7 +128,7 @@ def declarations(container):
     for name, written in container.constants.items():
         type_ = read_type(written, THEORY)
         THEORY.add_constant(name, type_)
-        text.append('const %s : %s;' % (name, show_type(type_)))
+        text.append(fill('const %s : %s;' % (name, show_type(type_))))
     return '\n'.join(text)
 
 

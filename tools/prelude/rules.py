@@ -69,7 +69,7 @@ def need_not_free(variable, sequent):
 
 def union(hypotheses, more):
     """The hypotheses, then those of `more` that aren't there yet."""
-    return tuple(without_repeats((*hypotheses, *more)))
+    return without_repeats((*hypotheses, *more))
 
 
 def join(first, second, conclusion):
@@ -202,7 +202,7 @@ def tinst(theory, name, type_, given):
 def change(given, function):
     """The sequent with the function of each term, without repeated hypotheses."""
     hypotheses = without_repeats(function(each) for each in given.hypotheses)
-    return Sequent(tuple(hypotheses), function(given.conclusion))
+    return Sequent(hypotheses, function(given.conclusion))
 
 
 @rule('term')

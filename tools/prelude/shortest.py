@@ -2,22 +2,29 @@
 
 from typing import NamedTuple
 
-from theorem import AT_HAND, Theorem, lines
+from theorem import AT_HAND, Theorem, derivation, lines
 
 
 class Attempt(NamedTuple):
     theorem: Theorem
     switched: frozenset
     used: list           # the names of all that could be switched
-    size: tuple          # the number of lines, then that of their characters
+
+    def is_shorter(self, other):
+        """Whether it has fewer lines, or as many with fewer characters."""
+        count, other_count = (len(derivation(each.theorem)) for each in (self, other))
+        if count != other_count:
+            return count < other_count
+        return self.count_characters() < other.count_characters()
+
+    def count_characters(self):
+        return sum(map(len, lines(self.theorem)))
 
 
 def attempt(prove, variables, switched):
     AT_HAND.begin(variables, switched)
     theorem = prove(*variables)
-    derivation = lines(theorem)
-    size = len(derivation), sum(map(len, derivation))
-    return Attempt(theorem, switched, sorted(AT_HAND.used), size)
+    return Attempt(theorem, switched, sorted(AT_HAND.used))
 
 
 def shortest(prove, variables):
@@ -31,5 +38,5 @@ def shortest(prove, variables):
         before = best
         for name in before.used:
             other = attempt(prove, variables, best.switched ^ {name})
-            best = min(best, other, key=lambda each: each.size)
+            best = other if other.is_shorter(best) else best
     return best.theorem

@@ -5,6 +5,8 @@ from 0 and from the inside. Each node is made once for each value of its parts, 
 are one object, and `is` tells equality.
 """
 
+from functools import cache
+
 
 class Node:
     """A type or a term, made once for each class and each value of the parts."""
@@ -52,17 +54,18 @@ def is_function_type(type_):
     return isinstance(type_, TypeConstructor) and type_.name == 'fun'
 
 
+@cache
 def type_variables(type_):
     """The names of the type variables, in order of first appearance from the left."""
     match type_:
         case TypeVariable(name):
-            return [name]
+            return (name,)
         case TypeConstructor(_, arguments):
             return without_repeats(name for each in arguments for name in type_variables(each))
 
 
 def without_repeats(values):
-    return list(dict.fromkeys(values))
+    return tuple(dict.fromkeys(values))
 
 
 def instantiate_type(type_, types):
@@ -206,6 +209,7 @@ def is_eta_redex(term):
     return False
 
 
+@cache
 def term_type_variables(term):
     """The names of the type variables of a term, in order of first appearance."""
     match term:
@@ -218,7 +222,7 @@ def term_type_variables(term):
         case Abstraction(type_, body):
             names = [type_variables(type_), term_type_variables(body)]
         case _:
-            return []
+            return ()
     return without_repeats(name for each in names for name in each)
 
 
