@@ -8,42 +8,44 @@ use Rattle.lt_definitions.specs.Terms.{TermTree, constant, application, term_nam
 use Rattle.lt_definitions.specs.Typing.{Signature, declared_type}
 use Rattle.lt_definitions.specs.Printing.{printed_type}
 use Rattle.lt_transport_definitions.specs.Notation.{WithType, ◌⇒◌, ◌~◌, ◌·◌, ◌≐◌, lambda, equality_at}
-use Rattle.lt_transport_definitions.specs.Letters.{a, c, d, e}
 use Rattle.lt_transport_definitions.specs.Constants.{is_counted, apply, rel_fun, domainp}
 use Rattle.lt_transport_definitions.specs.Relations.{Property, Correspondence}
-use Rattle.lt_transport_definitions.specs.Answers.{wrong_where}
+use Rattle.lt_transport_definitions.specs.Answers.{wrong_where, given, only_where}
 use Rattle.lt_transport_definitions.specs.Forms.{constructor_name, correspondence_form}
 use Rattle.lt_transport_definitions.specs.Sessions.{Four, QuotientEntry, constant_name, constant_types_of}
 use Rattle.lt_transport_definitions.specs.Commands.{CommandRefusal, because, Addition, Registration, corr_registered, property_registered, domain_registered, rule_registered, quotient_registered}
 use Rattle.lt_transport_definitions.specs.Rows.{lemma_of}
 
--- What a quotient's theorem says: the raw and the abstract type, and the four terms.
-pub record QuotientTheorem : Type 0 where
-  pub raw : TypeTree
-  pub abs : TypeTree
-  pub four : Four
-
--- four terms with the types that a quotient between these types gives them
-abbrev pub four_between : (raw abs : TypeTree) → (R A B T : TermTree) → Four
-four_between raw abs R A B T = record {
-  rel = record { term = R; ty = raw ~ raw };
-  abs = record { term = A; ty = raw ⇒ abs };
-  rep = record { term = B; ty = abs ⇒ raw };
-  corr = record { term = T; ty = raw ~ abs };
+-- The entry of a quotient with the label of its theorem: its types, and its four terms, which have
+-- the types that a quotient between these gives them.
+abbrev pub entry_between : Chars → (raw abs : TypeTree) → (R A B T : TermTree)
+    → (of_typedef : Bool) → QuotientEntry
+entry_between l raw abs R A B T of_typedef = record {
+  con = constructor_name abs;
+  label = l;
+  abs_type = abs;
+  raw_type = raw;
+  four = record {
+    rel = record { term = R; ty = raw ~ raw };
+    abs = record { term = A; ty = raw ⇒ abs };
+    rep = record { term = B; ty = abs ⇒ raw };
+    corr = record { term = T; ty = raw ~ abs };
+  };
+  of_typedef = of_typedef;
 }
 
--- Quotient R A B T, where the constant counts as such
-abbrev pub as_quotient : Signature → TermTree → Option QuotientTheorem
-as_quotient sig
+-- The quotient of which a theorem says Quotient R A B T, where the constant counts as such.
+abbrev pub as_quotient : Signature → Chars → TermTree → Option QuotientEntry
+as_quotient sig l
     (application (application (application (application (constant c (raw ∷ abs ∷ [])) R) A) B) T) =
-    if same_name c (codes "Quotient") && is_counted sig c
-    then Some (record { raw = raw; abs = abs; four = four_between raw abs R A B T }) else None
-as_quotient sig _ = None
+    only_where (same_name c (codes "Quotient") && is_counted sig c)
+    (entry_between l raw abs R A B T false)
+as_quotient sig l _ = None
 
 -- the form that a correspondence's constant has
 abbrev pub corr_form_of : Signature → TermTree → Option Correspondence
 corr_form_of sig t =
-    option_and_then (correspondence_form (constant_name t)) (declared_type sig (constant_name t))
+    given (declared_type sig (constant_name t)) (correspondence_form (constant_name t))
 
 abbrev mutual
   pub constructors_in : TypeTree → List Chars
@@ -65,13 +67,11 @@ is_in_order sig raw abs =
     list_all (λ c. comes_before c (constructor_name abs) (map (λ p. p.0) sig.types))
     (constructors_in raw)
 
-abbrev pub is_variable : TypeTree → Bool
-is_variable (type_variable a) = true
-is_variable (type_constructor c ts) = false
-
 -- the refusal of a raw type that is a variable
 abbrev pub bare_test : TypeTree → Option CommandRefusal
-bare_test raw = wrong_where (is_variable raw) (because "BareParameter" (printed_type raw ∷ []))
+bare_test (type_variable a) =
+    Some (because "BareParameter" (printed_type (type_variable a) ∷ []))
+bare_test (type_constructor c ts) = None
 
 -- the refusal of a theorem that fails a test
 abbrev pub not_quotient : String → CommandRefusal
@@ -79,18 +79,6 @@ not_quotient part = because "NotQuotient" (codes part ∷ [])
 
 abbrev pub quotient_test : Bool → String → Option CommandRefusal
 quotient_test holds part = wrong_where (not holds) (not_quotient part)
-
--- the entry of a quotient, with the label of its theorem
-abbrev pub entry_between : Chars → (raw abs : TypeTree) → Four → (of_typedef : Bool) → QuotientEntry
-entry_between l raw abs four of_typedef =
-    record {
-      con = constructor_name abs;
-      label = l;
-      abs_type = abs;
-      raw_type = raw;
-      four = four;
-      of_typedef = of_typedef;
-    }
 
 -- \x. R x x
 abbrev pub self_related : TypeTree → WithType → WithType
@@ -137,7 +125,3 @@ new_corr e =
       con = e.con;
       parameters = type_variables e.abs_type;
     }
-
--- whether R has no type variable that T lacks
-abbrev pub has_variables_of : (R T : WithType) → Bool
-has_variables_of R T = list_all (λ a. has_name a (term_names T.term)) (term_names R.term)
