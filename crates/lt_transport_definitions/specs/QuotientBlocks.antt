@@ -5,14 +5,14 @@ use Rattle.std.specs.List.{list_all}
 use Prim.Native.String.{String}
 use Rattle.lt_definitions.specs.Types.{Chars, same_name, has_name, TypeTree, type_variable, type_constructor, TypeTrees, no_types, type_and, bool, row, types_names, type_variables}
 use Rattle.lt_definitions.specs.Terms.{TermTree, constant, application, term_names}
-use Rattle.lt_definitions.specs.Typing.{Signature, declared_type}
+use Rattle.lt_definitions.specs.Typing.{Signature}
 use Rattle.lt_definitions.specs.Printing.{printed_type}
 use Rattle.lt_transport_definitions.specs.Notation.{WithType, ◌⇒◌, ◌~◌, ◌·◌, ◌≐◌, lambda, equality_at}
 use Rattle.lt_transport_definitions.specs.Constants.{is_counted, apply, rel_fun, domainp}
 use Rattle.lt_transport_definitions.specs.Relations.{Property, Correspondence}
-use Rattle.lt_transport_definitions.specs.Answers.{wrong_where, given, only_where}
-use Rattle.lt_transport_definitions.specs.Forms.{constructor_name, correspondence_form}
-use Rattle.lt_transport_definitions.specs.Sessions.{Four, QuotientEntry, constant_name, constant_types_of}
+use Rattle.lt_transport_definitions.specs.Answers.{wrong_where, only_where}
+use Rattle.lt_transport_definitions.specs.Forms.{constructor_name}
+use Rattle.lt_transport_definitions.specs.Sessions.{Four, QuotientEntry, constant_name}
 use Rattle.lt_transport_definitions.specs.Commands.{CommandRefusal, because, Addition, Registration, corr_registered, property_registered, domain_registered, rule_registered, quotient_registered}
 use Rattle.lt_transport_definitions.specs.Rows.{lemma_of}
 
@@ -42,11 +42,6 @@ as_quotient sig l
     (entry_between l raw abs R A B T false)
 as_quotient sig l _ = None
 
--- the form that a correspondence's constant has
-abbrev pub corr_form_of : Signature → TermTree → Option Correspondence
-corr_form_of sig t =
-    given (declared_type sig (constant_name t)) (correspondence_form (constant_name t))
-
 abbrev mutual
   pub constructors_in : TypeTree → List Chars
   constructors_in (type_variable a) = []
@@ -73,7 +68,6 @@ bare_test (type_variable a) =
     Some (because "BareParameter" (printed_type (type_variable a) ∷ []))
 bare_test (type_constructor c ts) = None
 
--- the refusal of a theorem that fails a test
 abbrev pub not_quotient : String → CommandRefusal
 not_quotient part = because "NotQuotient" (codes part ∷ [])
 
@@ -112,7 +106,7 @@ tail_registrations e d domain =
       label = e.con ++ codes "_domain";
       head = constant_name e.four.corr.term;
       variables = [];
-      type_arguments = types_names (row (constant_types_of e.four.corr.term));
+      type_arguments = term_names e.four.corr.term;
       domain = domain.term;
     }) ∷ []
 

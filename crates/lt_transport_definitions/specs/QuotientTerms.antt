@@ -15,7 +15,6 @@ use Rattle.lt_transport_definitions.specs.Quotients.{entry_map, Quot, Quots, ide
 abbrev pub instance_with_type : TypeMap → WithType → WithType
 instance_with_type m t = record { term = term_instance m t.term; ty = type_instance m t.ty }
 
--- its four terms at these arguments
 abbrev pub four_at : QuotientEntry → List TypeTree → Four
 four_at e ts = let m : TypeMap = entry_map e ts in record {
   rel = instance_with_type m e.four.rel;
@@ -24,12 +23,9 @@ four_at e ts = let m : TypeMap = entry_map e ts in record {
   corr = instance_with_type m e.four.corr;
 }
 
--- the abstract type between which and the raw type a quotient's functions go
+-- the abstract type of a quotient
 abbrev pub abs_type_of : Four → TypeTree
 abs_type_of q = domain_type q.rep.ty
-
-abbrev pub raw_type_of : Four → TypeTree
-raw_type_of q = domain_type q.abs.ty
 
 -- eq, id, id and eq
 abbrev pub identity_four : TypeTree → Four
@@ -45,7 +41,6 @@ identity_four t =
 abbrev pub mapping_of : Registry → Chars → Chars
 mapping_of G K = unwrap_or (option_map (λ r. r.mapping) (relator_of G K)) []
 
--- a constructor's relator over relations
 abbrev pub by_relator : Registry → Chars → List WithType → WithType
 by_relator G K rs = relator_term K (unwrap_or (relator_for G K) []) rs
 

@@ -1,5 +1,6 @@
 -- A session in step gives one in step.
 use Rattle.std.specs.Prelude.{◌≡◌, ◌⊎◌, List, [], ◌∷◌, ◌++◌, ◌&&◌, Option, Some, None, map, fold, option_map, option_to_list, is_some, codes}
+use Rattle.std.specs.Result.{result_ok}
 use Rattle.std.specs.List.{flat_map}
 use Rattle.std.proofs.Common.{refl, subst, sym, ap, ◌∙◌, inl, inr}
 use Rattle.lt_definitions.specs.Types.{Chars, same_name, TypeTree}
@@ -7,7 +8,7 @@ use Rattle.lt_definitions.specs.Terms.{TermTree}
 use Rattle.lt_definitions.specs.Items.{def_item, Context}
 use Rattle.lt_transport_definitions.specs.Notation.{WithType, ◌·◌}
 use Rattle.lt_transport_definitions.specs.Relations.{Relator, PropertyRule, DomainRule}
-use Rattle.lt_transport_definitions.specs.Answers.{value_of, first_wrong}
+use Rattle.lt_transport_definitions.specs.Answers.{first_wrong}
 use Rattle.lt_transport_definitions.specs.RuleForm.{TransferRule, rule_form}
 use Rattle.lt_transport_definitions.specs.Sessions.{Four, QuotientEntry, Session, signature_of, statement_at}
 use Rattle.lt_texts.specs.Commands.{Command, item_command, law_command, corr_command, relator_command, property_command, domain_command, rule_command, lifting_command, lifting_typedef_command, quotient_type_command, lift_command, parametric_command, param_rule_command, equiv_command, implies_command, carry_command, abs_eq_command, rep_eq_command}
@@ -266,7 +267,7 @@ lifted-known s n ty t l four h =
     let transfer : WithType = four.corr · t · declared_constant n ty in
     let items : List Addition = this_item (def_item n ty ((four.abs · t).term)) ∷ lemma_of (n ++ codes "_transfer") transfer ∷ [] in (
       (inr (inl refl), (inl h, (inr (inr (inl refl)), tt))),
-      optional-rule s items (n ++ codes "_transfer") (value_of (rule_form (signature_of s) s.registry (n ++ codes "_transfer") transfer.term)) (inr (inr (inl refl))),
+      optional-rule s items (n ++ codes "_transfer") (result_ok (rule_form (signature_of s) s.registry (n ++ codes "_transfer") transfer.term)) (inr (inr (inl refl))),
     )
 
 in-rows : (s : Session) (c : Command) → EachBlock (Registers s) (row_of s c)
