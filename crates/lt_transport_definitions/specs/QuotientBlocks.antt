@@ -6,7 +6,7 @@ use Prim.Native.String.{String}
 use Rattle.lt_definitions.specs.Types.{Chars, same_name, has_name, TypeTree, type_variable, type_constructor, TypeTrees, no_types, type_and, bool, row, types_names, type_variables}
 use Rattle.lt_definitions.specs.Terms.{TermTree, constant, application, term_names}
 use Rattle.lt_definitions.specs.Typing.{Signature}
-use Rattle.lt_definitions.specs.Printing.{printed_type}
+use Rattle.lt_definitions.specs.Printing.{type_variable_name}
 use Rattle.lt_transport_definitions.specs.Notation.{WithType, ◌⇒◌, ◌~◌, ◌·◌, ◌≐◌, lambda, equality_at}
 use Rattle.lt_transport_definitions.specs.Constants.{is_counted, apply, rel_fun, domainp}
 use Rattle.lt_transport_definitions.specs.Relations.{Property, Correspondence}
@@ -64,8 +64,7 @@ is_in_order sig raw abs =
 
 -- the refusal of a raw type that is a variable
 abbrev pub bare_test : TypeTree → Option CommandRefusal
-bare_test (type_variable a) =
-    Some (because "BareParameter" (printed_type (type_variable a) ∷ []))
+bare_test (type_variable a) = Some (because "BareParameter" (type_variable_name a ∷ []))
 bare_test (type_constructor c ts) = None
 
 abbrev pub not_quotient : String → CommandRefusal
@@ -93,8 +92,7 @@ corr_property l p e =
     property_registered
     (record { label = l; property = p; head = constant_name e.four.corr.term; premises = [] })
 
--- What a tail block registers: the correspondence, the quotient, the two properties, the rule and
--- the domain equation.
+-- What a tail block registers.
 abbrev pub tail_registrations : QuotientEntry → Correspondence → WithType → List Registration
 tail_registrations e d domain =
     corr_registered d

@@ -27,7 +27,6 @@ four_at e ts = let m : TypeMap = entry_map e ts in record {
 abbrev pub abs_type_of : Four → TypeTree
 abs_type_of q = domain_type q.rep.ty
 
--- eq, id, id and eq
 abbrev pub identity_four : TypeTree → Four
 identity_four t =
     record {
@@ -63,7 +62,6 @@ relator_four G K qs =
       corr = by_relator G K (map (λ q. q.corr) qs);
     }
 
--- a quotient behind another
 abbrev pub composed_four : Four → Four → Four
 composed_four q r = record {
   rel = relcompp q.corr (relcompp r.rel (apply "conversep" (q.corr ∷ [])));

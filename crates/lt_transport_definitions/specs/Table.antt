@@ -38,7 +38,6 @@ use Rattle.lt_transport_definitions.specs.ParamRows.{numbered_by, parameters_of,
 abbrev pub registers : Registration → Row
 registers r = adds [] (r ∷ [])
 
--- the refusal of a part of a form, as of relators and correspondences, and as of rules
 abbrev pub relator_shape : Chars → CommandRefusal
 relator_shape part = because "RelatorShape" (part ∷ [])
 

@@ -11,7 +11,7 @@ use Rattle.lt_nameless.proofs.BindingLemmas.{if-true, if-false}
 use Rattle.lt_transport_definitions.specs.Relations.{Property, Sides, RelationVariable, Registry}
 use Rattle.lt_transport_definitions.specs.Answers.{needs_test, needs}
 use Rattle.lt_transport_definitions.specs.Reading.{quantified, relation_name, opened_from, body_of, prefix_of, read_relation}
-use Rattle.lt_transport_definitions.specs.RuleForm.{TransferRule, with_side, conditioned, Related, as_related, are_types_right, rule_form}
+use Rattle.lt_transport_definitions.specs.RuleForm.{TransferRule, with_side, conditioned, as_related, are_types_right, rule_form}
 use Rattle.lt_transport_definitions.specs.Sessions.{Session, rule_now, rules_now}
 use Rattle.lt_transport_laws.specs.SessionStatements.{AreScopedStatements}
 use Rattle.lt_transport_laws.proofs.Rows.{AllOf}
@@ -70,9 +70,9 @@ rest-none sig xs (constant c ts) h = h
 rest-none sig xs (abstraction x ty b) h = h
 
 -- nor a raw side
-abbrev IsScopedRelated : Option Related → Type 0
+abbrev IsScopedRelated : Option (TermTree × TermTree × Chars × List TypeTree) → Type 0
 IsScopedRelated None = Unit {0}
-IsScopedRelated (Some r) = HasNoLooseNames r.raw
+IsScopedRelated (Some r) = HasNoLooseNames r.1
 
 related-none : (t : TermTree) → HasNoLooseNames t → IsScopedRelated (as_related t)
 related-none (application (application r raw) (constant c ts)) h =
@@ -110,10 +110,10 @@ test-scoped false e r h = tt
 form-scoped : (sig : Signature) (G : Registry) (l : Chars) (t : TermTree) → HasNoLooseNames t → IsScopedOption (result_ok (rule_form sig G l t))
 form-scoped sig G l t h = needs-scoped (prefix_of t) (codes "Prefix") _ (λ xs e.
     needs-scoped (as_related (conditioned sig xs (body_of t)).1) (codes "Head") _ (λ found d.
-    let raw : HasNoLooseNames found.raw =
+    let raw : HasNoLooseNames found.1 =
     subst IsScopedRelated d (related-none (conditioned sig xs (body_of t)).1 (rest-none sig xs (body_of t) (body-none t h))) in
-    needs-scoped (read_relation sig G xs found.relation) (codes "Relation") _ (λ r c.
-    test-scoped (are_types_right xs t found.pattern r) (codes "Types") _ raw)))
+    needs-scoped (read_relation sig G xs found.0) (codes "Relation") _ (λ r c.
+    test-scoped (are_types_right xs t found.3 r) (codes "Types") _ raw)))
 
 rule_of-scoped : (sig : Signature) (G : Registry) (l : Chars) (o : Option TermTree) → ((t : TermTree) → o ≡ Some t → HasNoLooseNames t)
     → IsScopedOption (option_and_then (λ t. result_ok (rule_form sig G l t)) o)
