@@ -78,7 +78,7 @@ typedef-facts c n xs p l a r v =
     (x.raw, pred, x.new_type, ap (λ o. (with_typedef n xs p a r o c).signature.types) some)
 
 -- a term's type has no fault
-type-sound : (d : Context) → IsSound d → (t : TermTree) (ty : TypeTree) → typed d.signature [] t ≡ Ok ty → type_fault d.signature ty ≡ None
+pub type-sound : (d : Context) → IsSound d → (t : TermTree) (ty : TypeTree) → typed d.signature [] t ≡ Ok ty → type_fault d.signature ty ≡ None
 type-sound d s t ty e = typed-sound d.signature s.built s.consts [] (λ c u f. no-pair c u f) t ty (typed-has d.signature [] t ty e)
   where
     no-pair : (c : Chars) (u : TypeTree) → found {A = TypeTree} c [] ≡ Some u → type_fault d.signature u ≡ None

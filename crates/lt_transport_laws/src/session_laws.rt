@@ -1,13 +1,13 @@
 //! Laws of sessions and walks. Each function does nothing: its contract is the law.
-ghost use Rattle.lt_transport_laws.specs.SessionStatements.{EachOutcomeIsOne, SessionsAreOne, WalksArePlain, RunsArePlain, AlikeItemsPrintAlike, RegistriesStaySound, SessionsStayInStep};
+ghost use Rattle.lt_transport_laws.specs.SessionStatements.{EachOutcomeIsOne, SessionsAreOne, WalksArePlain, RunsArePlain, AlikeItemsPrintAlike, AlikeRefusalsPrintAlike, RegistriesStaySound, SessionsStayInStep};
 
-/// One outcome comes of each command, transports included, where each statement of the session has
-/// its binders.
+/// At most one outcome comes of each command, transports included, where each statement of the
+/// session has its binders.
 pub fn each_outcome_is_one()
     ensures { EachOutcomeIsOne }
 {}
 
-/// A command leads to one session.
+/// A command leads to at most one session.
 pub fn sessions_are_one()
     ensures { SessionsAreOne }
 {}
@@ -18,9 +18,11 @@ pub fn walks_are_plain()
     ensures run { RunsArePlain }
 {}
 
-/// What a call answers up to alpha equality prints as what the walk gives.
+/// What a call answers up to alpha equality prints as what the walk gives, and what it refuses
+/// alike is written as what the walk refuses.
 pub fn alike_items_print_alike()
-    ensures { AlikeItemsPrintAlike }
+    ensures items { AlikeItemsPrintAlike }
+    ensures refusals { AlikeRefusalsPrintAlike }
 {}
 
 /// A block leaves the registry one that meets what the laws ask.
