@@ -1,4 +1,5 @@
 //! Laws of sessions and walks. Each function does nothing: its contract is the law.
+ghost use Rattle.lt_transport_laws.specs.LineStatements.{LinesAreReadable, NamedLinesAreOfText, RunsHaveLinesOfText};
 ghost use Rattle.lt_transport_laws.specs.SessionStatements.{EachOutcomeIsOne, SessionsAreOne, WalksArePlain, RunsArePlain, AlikeItemsPrintAlike, AlikeRefusalsPrintAlike, RegistriesStaySound, SessionsStayInStep};
 
 /// At most one outcome comes of each command, transports included, where each statement of the
@@ -33,4 +34,13 @@ pub fn registries_stay_sound()
 /// A session in step gives one in step: each label that it keeps has a statement.
 pub fn sessions_stay_in_step()
     ensures { SessionsStayInStep }
+{}
+
+/// Each line of a lemma of a run is one that some text has, those of lemmas that blocks add too. In
+/// such a line names are names and numbers below 2^32, so it is read back; and a line whose names
+/// are names, those of its binders too, is such a line.
+pub fn lines_are_of_text()
+    ensures run { RunsHaveLinesOfText }
+    ensures readable { LinesAreReadable }
+    ensures named { NamedLinesAreOfText }
 {}
