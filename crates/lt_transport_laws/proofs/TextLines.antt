@@ -20,9 +20,8 @@ use Rattle.lt_texts.specs.Reading.{Reads}
 use Rattle.lt_texts.specs.Writing.{TermText, word, bound, free, lambda, applied, TermTexts, no_more_terms, more_terms, type_lexemes, types_lexemes, arguments_lexemes, term_lexemes, terms_lexemes, term_of_text, applied_to}
 use Rattle.lt_texts.specs.Named.{IsTypeNamed, AreTypesNamed, IsNamed, IsReadablePiece, AreReadable}
 use Rattle.lt_texts.specs.Commands.{Command, item_command, law_command, corr_command, relator_command, property_command, domain_command, rule_command, lifting_command, lifting_typedef_command, quotient_type_command, lift_command, parametric_command, param_rule_command, equiv_command, implies_command, carry_command, abs_eq_command, rep_eq_command}
-use Rattle.lt_texts.specs.Pieces.{Piece, word_piece, sign_piece, name_piece, number_piece, variable_piece, type_piece, statement_piece, term_piece, rule_text, line_text, head_text, semicolon, IsWritten, AreWritten}
-use Rattle.lt_texts.specs.Forms.{Form, a_command, sentence_text, sentences_text, header_text, theory_text}
-use Rattle.lt_texts.specs.WrongPlaces.{Stands}
+use Rattle.lt_texts.specs.Pieces.{Piece, word_piece, sign_piece, name_piece, number_piece, variable_piece, type_piece, statement_piece, term_piece, rule_text, line_text, semicolon, IsWritten, AreWritten}
+use Rattle.lt_texts.specs.Forms.{Form, theory_text}
 use Rattle.lt_texts.specs.CommandPlaces.{LinesAt, CommandAt, NextPlaced}
 use Rattle.lt_grammar.proofs.Scalars.{AreScalars}
 use Rattle.lt_grammar.proofs.PieceCuts.{is_ascii_name}
@@ -86,8 +85,8 @@ reads-both s a (w ∷ ws) p (t, n, q, r) =
     let later = reads-both (record s { ahead = t.rest }) a ws both.1 r in
     ((subst HasBytes (sym q) (token-has t.kind t.spelling n.longest.spelt both.0), later.0), later.1)
 
-stands-scalars : (s a : Left) (ps : List Piece) → Stands s ps a → AreScalars s.ahead → AreScalars a.ahead
-stands-scalars s a ps h p = (reads-both s a h.0 p h.2).1
+reads-scalars : (s a : Left) (ws : List Lexeme) → Reads s ws a → AreScalars s.ahead → AreScalars a.ahead
+reads-scalars s a ws r p = (reads-both s a ws p r).1
 
 -- ---- what is written by lexemes with bytes is named
 
@@ -275,33 +274,33 @@ CommandLines _ = Unit {0}
 
 command-of : (f : Form) (m b : Left) (c : Command) (places : List ℕ) → CommandAt f m c places b → AreScalars m.ahead → CommandLines c × AreScalars b.ahead
 command-of f m b (item_command (lemma_item l t lines)) places (a, h, d, k, j) p =
-    let lines_there = lines-of a d lines places k (stands-scalars m a _ h p) in
-    (lines_there.0, stands-scalars d b _ j lines_there.1)
-command-of f m b (item_command (type_item n k)) places h p = (tt, stands-scalars m b _ h.1 p)
-command-of f m b (item_command (const_item n ty)) places h p = (tt, stands-scalars m b _ h.1 p)
-command-of f m b (item_command (axiom_item l t)) places h p = (tt, stands-scalars m b _ h.1 p)
-command-of f m b (item_command (def_item n ty t)) places h p = (tt, stands-scalars m b _ h.1 p)
-command-of f m b (item_command (typedef_item n xs t l a r)) places h p = (tt, stands-scalars m b _ h.1 p)
-command-of f m b (law_command w l) places h p = (tt, stands-scalars m b _ h.1 p)
-command-of f m b (corr_command c) places h p = (tt, stands-scalars m b _ h.1 p)
-command-of f m b (relator_command K R M E Q O) places h p = (tt, stands-scalars m b _ h.1 p)
-command-of f m b (property_command l) places h p = (tt, stands-scalars m b _ h.1 p)
-command-of f m b (domain_command l) places h p = (tt, stands-scalars m b _ h.1 p)
-command-of f m b (rule_command l) places h p = (tt, stands-scalars m b _ h.1 p)
-command-of f m b (lifting_command l) places h p = (tt, stands-scalars m b _ h.1 p)
-command-of f m b (lifting_typedef_command q) places h p = (tt, stands-scalars m b _ h.1 p)
-command-of f m b (quotient_type_command q xs r l) places h p = (tt, stands-scalars m b _ h.1 p)
-command-of f m b (lift_command n ty t l) places h p = (tt, stands-scalars m b _ h.1 p)
-command-of f m b (parametric_command q) places h p = (tt, stands-scalars m b _ h.1 p)
-command-of f m b (param_rule_command n l k) places h p = (tt, stands-scalars m b _ h.1 p)
-command-of f m b (equiv_command n t) places h p = (tt, stands-scalars m b _ h.1 p)
-command-of f m b (implies_command n t) places h p = (tt, stands-scalars m b _ h.1 p)
-command-of f m b (carry_command n e l) places h p = (tt, stands-scalars m b _ h.1 p)
-command-of f m b (abs_eq_command c) places h p = (tt, stands-scalars m b _ h.1 p)
-command-of f m b (rep_eq_command c) places h p = (tt, stands-scalars m b _ h.1 p)
+    let lines_there = lines-of a d lines places k (reads-scalars m a h.0 h.2 p) in
+    (lines_there.0, reads-scalars d b j.0 j.2 lines_there.1)
+command-of f m b (item_command (type_item n k)) places h p = (tt, reads-scalars m b h.1.0 h.1.2 p)
+command-of f m b (item_command (const_item n ty)) places h p = (tt, reads-scalars m b h.1.0 h.1.2 p)
+command-of f m b (item_command (axiom_item l t)) places h p = (tt, reads-scalars m b h.1.0 h.1.2 p)
+command-of f m b (item_command (def_item n ty t)) places h p = (tt, reads-scalars m b h.1.0 h.1.2 p)
+command-of f m b (item_command (typedef_item n xs t l a r)) places h p = (tt, reads-scalars m b h.1.0 h.1.2 p)
+command-of f m b (law_command w l) places h p = (tt, reads-scalars m b h.1.0 h.1.2 p)
+command-of f m b (corr_command c) places h p = (tt, reads-scalars m b h.1.0 h.1.2 p)
+command-of f m b (relator_command K R M E Q O) places h p = (tt, reads-scalars m b h.1.0 h.1.2 p)
+command-of f m b (property_command l) places h p = (tt, reads-scalars m b h.1.0 h.1.2 p)
+command-of f m b (domain_command l) places h p = (tt, reads-scalars m b h.1.0 h.1.2 p)
+command-of f m b (rule_command l) places h p = (tt, reads-scalars m b h.1.0 h.1.2 p)
+command-of f m b (lifting_command l) places h p = (tt, reads-scalars m b h.1.0 h.1.2 p)
+command-of f m b (lifting_typedef_command q) places h p = (tt, reads-scalars m b h.1.0 h.1.2 p)
+command-of f m b (quotient_type_command q xs r l) places h p = (tt, reads-scalars m b h.1.0 h.1.2 p)
+command-of f m b (lift_command n ty t l) places h p = (tt, reads-scalars m b h.1.0 h.1.2 p)
+command-of f m b (parametric_command q) places h p = (tt, reads-scalars m b h.1.0 h.1.2 p)
+command-of f m b (param_rule_command n l k) places h p = (tt, reads-scalars m b h.1.0 h.1.2 p)
+command-of f m b (equiv_command n t) places h p = (tt, reads-scalars m b h.1.0 h.1.2 p)
+command-of f m b (implies_command n t) places h p = (tt, reads-scalars m b h.1.0 h.1.2 p)
+command-of f m b (carry_command n e l) places h p = (tt, reads-scalars m b h.1.0 h.1.2 p)
+command-of f m b (abs_eq_command c) places h p = (tt, reads-scalars m b h.1.0 h.1.2 p)
+command-of f m b (rep_eq_command c) places h p = (tt, reads-scalars m b h.1.0 h.1.2 p)
 
 placed-of : (f : Form) (s b : Left) (c : Command) (from : ℕ) (places : List ℕ) (to : ℕ) → NextPlaced f s c from places to b → AreScalars s.ahead → CommandLines c × AreScalars b.ahead
-placed-of f s b c from places to (xs, headers, allowed, m, h, first, k, e) p = command-of f m b c places k (stands-scalars s m (sentences_text f xs) h p)
+placed-of f s b c from places to (xs, headers, allowed, m, h, first, k, e) p = command-of f m b c places k (reads-scalars s m h.0 h.2 p)
 
 -- the items among what is added have such lines
 abbrev GivenLines : List Addition → Type 0
@@ -360,4 +359,4 @@ unfolding Walks WalksText
 runs-lines limit text blocks end (inl h) = no-lines blocks h.1
 runs-lines limit text blocks end (inr (h, inl k)) = no-lines blocks k.2
 runs-lines limit text blocks end (inr (h, inr k)) =
-    walk-lines limit (new_session limit) k.0 blocks end (stands-scalars (left_of text) k.0 (header_text theory_text) k.1 (left-scalars text)) k.2
+    walk-lines limit (new_session limit) k.0 blocks end (reads-scalars (left_of text) k.0 k.1.0 k.1.2 (left-scalars text)) k.2
