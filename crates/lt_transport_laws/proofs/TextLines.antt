@@ -1,12 +1,13 @@
 -- Lines that some text has, and that the lines of a run's lemmas are such.
 use Rattle.std.proofs.Common.{◌≡◌, ℕ, zero, suc, ◌∙◌, ap, sym, refl, subst, Bool, true, false, List, [], ◌∷◌, ◌++◌, length, take, codes, Some, None, inl, inr}
 use Rattle.std.specs.Prelude.{◌^◌, ◌&&◌, ◌==◌, if◌then◌else◌, nat_lt, IsUtf8}
+use Rattle.std.specs.List.{flat_map}
 use Rattle.std.specs.Str.{all_scalars, is_utf8}
 use Rattle.std.specs.Str.Lossy.{utf8_valid_len, valid_len_up_to}
 use Rattle.std.proofs.lemmas.Bool.{and_parts, ltb-true}
 use Rattle.std.proofs.lemmas.Str.{scalars-chars, IsUtf8-from_is_utf8}
 use Rattle.lt_texts.specs.declared.lexical.TokenKind.{TokenKind}
-use Rattle.lt_texts.specs.declared.lexical.TokenKind.TheVariants.{Name, TypeVariable, Number, CloseSquare, Close, Semicolon}
+use Rattle.lt_texts.specs.declared.lexical.TokenKind.TheVariants.{Name, TypeVariable, Number, CloseSquare, Close, OpenBrace, CloseBrace, Semicolon}
 use Rattle.lt_definitions.specs.Types.{Chars, TypeTree, TypeTrees, type_variable, type_constructor, no_types, type_and, row}
 use Rattle.lt_definitions.specs.Terms.{TermTree, free_variable, bound_name, constant, application, abstraction}
 use Rattle.lt_definitions.specs.Characters.{is_name, is_numeral, more_digits}
@@ -18,13 +19,14 @@ use Rattle.lt_texts.specs.Texts.{Left, left_of}
 use Rattle.lt_texts.specs.Lexemes.{Lexeme, a_name, a_variable, a_number, a_sign, lexeme}
 use Rattle.lt_texts.specs.Reading.{Reads}
 use Rattle.lt_texts.specs.Writing.{TermText, word, bound, free, lambda, applied, TermTexts, no_more_terms, more_terms, type_lexemes, types_lexemes, arguments_lexemes, term_lexemes, terms_lexemes, term_of_text, applied_to}
-use Rattle.lt_texts.specs.Named.{IsTypeNamed, AreTypesNamed, IsNamed, IsReadablePiece, AreReadable}
+use Rattle.lt_texts.specs.Named.{IsTypeNamed, AreTypesNamed, IsNamed, IsReadablePiece, AreReadable, IsReadableItem, AreReadableItems}
 use Rattle.lt_texts.specs.Commands.{Command, item_command, law_command, corr_command, relator_command, property_command, domain_command, rule_command, lifting_command, lifting_typedef_command, quotient_type_command, lift_command, parametric_command, param_rule_command, equiv_command, implies_command, carry_command, abs_eq_command, rep_eq_command}
-use Rattle.lt_texts.specs.Pieces.{Piece, word_piece, sign_piece, name_piece, number_piece, variable_piece, type_piece, statement_piece, term_piece, rule_text, line_text, semicolon, IsWritten, AreWritten}
+use Rattle.lt_texts.specs.Pieces.{Piece, word_piece, sign_piece, name_piece, number_piece, variable_piece, type_piece, statement_piece, term_piece, rule_text, line_text, head_text, semicolon, IsWritten, AreWritten}
 use Rattle.lt_texts.specs.Forms.{Form, theory_text}
 use Rattle.lt_texts.specs.CommandPlaces.{LinesAt, CommandAt, NextPlaced}
 use Rattle.lt_grammar.proofs.Scalars.{AreScalars}
 use Rattle.lt_grammar.proofs.PieceCuts.{is_ascii_name}
+use Rattle.lt_grammar.proofs.PrintedItems.{printed_items_are_read}
 use Rattle.lt_grammar.proofs.Repaired.{HasBytes, HaveBytes, ascii_is_name}
 use Rattle.lt_grammar.proofs.RowPieces.{join_written}
 use Rattle.lt_grammar.proofs.WithBytes.{lexemes_have_a_text}
@@ -37,7 +39,7 @@ use Rattle.lt_transport_definitions.specs.Parts.{tests_before}
 use Rattle.lt_transport_definitions.specs.Table.{row_of}
 use Rattle.lt_transport_definitions.specs.TheoryWalks.{theory_commands, items_of_blocks}
 use Rattle.lt_transport_laws.proofs.RowLemmas.{Each, comes-each, comes-unless}
-use Rattle.lt_transport_laws.specs.LineStatements.{IsCounted, AreCounted, LinesAreReadable, IsSpelled, IsSpelledPiece, AreSpelled, NamedLinesAreOfText, HasLinesOfText, HaveLinesOfText, RunsHaveLinesOfText}
+use Rattle.lt_transport_laws.specs.LineStatements.{IsCounted, AreCounted, LinesAreReadable, IsSpelled, IsSpelledPiece, AreSpelled, NamedLinesAreOfText, HasLinesOfText, HaveLinesOfText, RunsHaveLinesOfText, IsReadableHead, HaveReadableHeads, RunsAreReadBack}
 
 -- ---- what is read has bytes
 
@@ -360,3 +362,37 @@ runs-lines limit text blocks end (inl h) = no-lines blocks h.1
 runs-lines limit text blocks end (inr (h, inl k)) = no-lines blocks k.2
 runs-lines limit text blocks end (inr (h, inr k)) =
     walk-lines limit (new_session limit) k.0 blocks end (reads-scalars (left_of text) k.0 k.1.0 k.1.2 (left-scalars text)) k.2
+
+-- ---- what is printed of a run is read back
+
+readable-on : (ps qs : List Piece) → AreReadable ps → AreReadable qs → AreReadable (ps ++ qs)
+readable-on [] qs h k = k
+readable-on (p ∷ ps) qs h k = (h.0, readable-on ps qs h.1 k)
+
+counted-split : (ps qs : List Piece) → AreCounted (ps ++ qs) → AreCounted ps × AreCounted qs
+counted-split [] qs h = (tt, h)
+counted-split (p ∷ ps) qs h = let k = counted-split ps qs h.1 in ((h.0, k.0), k.1)
+
+all-readable : (lines : List (Rule TermTree)) → AreOfText lines → AreCounted (flat_map line_text lines) → AreReadable (flat_map line_text lines)
+all-readable [] h c = tt
+all-readable (r ∷ lines) h c =
+    let k = counted-split (line_text r) (flat_map line_text lines) c in
+    readable-on (line_text r) (flat_map line_text lines) (lines-readable r h.0 k.0) (all-readable lines h.1 k.1)
+
+item-readable : (i : Item) → HasLinesOfText i → IsReadableHead i → IsReadableItem i
+item-readable (lemma_item l t lines) h k =
+    readable-on (head_text (lemma_item l t lines)) (sign_piece OpenBrace ∷ (flat_map line_text lines ++ sign_piece CloseBrace ∷ [])) k.0
+    (tt, readable-on (flat_map line_text lines) (sign_piece CloseBrace ∷ []) (all-readable lines h k.1) (tt, tt))
+item-readable (type_item n k) h r = r
+item-readable (const_item n ty) h r = r
+item-readable (axiom_item l t) h r = r
+item-readable (def_item n ty t) h r = r
+item-readable (typedef_item n xs t l a b) h r = r
+
+items-readable : (items : List Item) → HaveLinesOfText items → HaveReadableHeads items → AreReadableItems items
+items-readable [] h r = tt
+items-readable (i ∷ items) h r = (item-readable i h.0 r.0, items-readable items h.1 r.1)
+
+pub runs-read : RunsAreReadBack
+runs-read limit text blocks end h r =
+    printed_items_are_read (items_of_blocks blocks) (items-readable (items_of_blocks blocks) (runs-lines limit text blocks end h) r)

@@ -1,12 +1,15 @@
 -- What the laws say of the lines of lemmas that a block adds.
 -- Source: this project's own.
-use Rattle.std.specs.Prelude.{ℕ, ◌<◌, ◌^◌, List, [], ◌∷◌}
+use Rattle.std.specs.Prelude.{ℕ, ◌<◌, ◌^◌, List, [], ◌∷◌, encode_utf8_all}
+use Rattle.std.specs.List.{flat_map}
 use Rattle.lt_definitions.specs.Terms.{TermTree, free_variable, bound_name, constant, application, abstraction, HasNoLooseNames}
 use Rattle.lt_definitions.specs.Types.{row}
 use Rattle.lt_definitions.specs.Rules.{Rule}
 use Rattle.lt_definitions.specs.Items.{Item, lemma_item}
-use Rattle.lt_texts.specs.Named.{IsName, IsTypeNamed, AreTypesNamed, binder_count, AreReadable}
-use Rattle.lt_texts.specs.Pieces.{Piece, word_piece, sign_piece, name_piece, number_piece, variable_piece, type_piece, statement_piece, term_piece, rule_text, line_text}
+use Rattle.lt_definitions.specs.Printing.{report}
+use Rattle.lt_texts.specs.Named.{IsName, IsTypeNamed, AreTypesNamed, binder_count, AreReadable, IsReadableItem, AreAlikeItems}
+use Rattle.lt_texts.specs.Pieces.{Piece, word_piece, sign_piece, name_piece, number_piece, variable_piece, type_piece, statement_piece, term_piece, rule_text, line_text, head_text}
+use Rattle.lt_texts.specs.Forms.{HasPlainItems}
 use Rattle.lt_walks.specs.Walks.{End}
 use Rattle.lt_transport_definitions.specs.Commands.{CommandRefusal}
 use Rattle.lt_transport_definitions.specs.Blocks.{IsOfText, AreOfText}
@@ -68,3 +71,22 @@ abbrev pub RunsHaveLinesOfText : Type 0
 RunsHaveLinesOfText =
     (limit : ℕ) (text : List ℕ) (blocks : List (List Item)) (end : End CommandRefusal)
     → RunsText limit text blocks end → HaveLinesOfText (items_of_blocks blocks)
+
+-- What an item states and adds is readable, and the terms of its lines are counted.
+abbrev pub IsReadableHead : Item → Type 0
+IsReadableHead (lemma_item l t lines) =
+    AreReadable (head_text (lemma_item l t lines)) × AreCounted (flat_map line_text lines)
+IsReadableHead item = IsReadableItem item
+
+abbrev pub HaveReadableHeads : List Item → Type 0
+HaveReadableHeads [] = Unit {0}
+HaveReadableHeads (i ∷ items) = IsReadableHead i × HaveReadableHeads items
+
+-- What is printed of a run is read back as items alike, where what its items state is readable: the
+-- lines of their lemmas are.
+abbrev pub RunsAreReadBack : Type 0
+RunsAreReadBack =
+    (limit : ℕ) (text : List ℕ) (blocks : List (List Item)) (end : End CommandRefusal)
+    → RunsText limit text blocks end → HaveReadableHeads (items_of_blocks blocks)
+    → (others : List Item) × AreAlikeItems others (items_of_blocks blocks)
+    × HasPlainItems (encode_utf8_all (report (items_of_blocks blocks))) others

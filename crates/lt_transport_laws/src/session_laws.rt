@@ -1,5 +1,5 @@
 //! Laws of sessions and walks. Each function does nothing: its contract is the law.
-ghost use Rattle.lt_transport_laws.specs.LineStatements.{LinesAreReadable, NamedLinesAreOfText, RunsHaveLinesOfText};
+ghost use Rattle.lt_transport_laws.specs.LineStatements.{LinesAreReadable, NamedLinesAreOfText, RunsHaveLinesOfText, RunsAreReadBack};
 ghost use Rattle.lt_transport_laws.specs.SessionStatements.{EachOutcomeIsOne, SessionsAreOne, WalksArePlain, RunsArePlain, AlikeItemsPrintAlike, AlikeRefusalsPrintAlike, RegistriesStaySound, SessionsStayInStep};
 
 /// At most one outcome comes of each command, transports included, where each statement of the
@@ -43,4 +43,11 @@ pub fn lines_are_of_text()
     ensures run { RunsHaveLinesOfText }
     ensures readable { LinesAreReadable }
     ensures named { NamedLinesAreOfText }
+{}
+
+/// What is printed of a run is read back as items alike, where what its items state is readable: of
+/// the lines of their lemmas nothing is asked but that no bound name is loose, and that fewer than
+/// 2^64 binders stand in a term.
+pub fn runs_are_read_back()
+    ensures { RunsAreReadBack }
 {}
