@@ -1,7 +1,8 @@
 -- Lines that some text has, and that the lines of a run's lemmas are such.
-use Rattle.std.proofs.Common.{◌≡◌, ℕ, zero, suc, ◌∙◌, ap, sym, refl, subst, Bool, true, false, List, [], ◌∷◌, ◌++◌, length, take, codes, Some, None, inl, inr}
+use Rattle.std.proofs.Common.{◌≡◌, ℕ, zero, suc, ap, sym, refl, subst, Bool, true, false, List, [], ◌∷◌, ◌++◌, length, take, codes, Some, None, Result, Ok, Err, inl, inr}
 use Rattle.std.specs.Prelude.{◌^◌, ◌&&◌, ◌==◌, if◌then◌else◌, nat_lt, IsUtf8}
 use Rattle.std.specs.List.{flat_map}
+use Rattle.std.specs.Result.{result_err}
 use Rattle.std.specs.Str.{all_scalars, is_utf8}
 use Rattle.std.specs.Str.Lossy.{utf8_valid_len, valid_len_up_to}
 use Rattle.std.proofs.lemmas.Bool.{and_parts, ltb-true}
@@ -9,10 +10,18 @@ use Rattle.std.proofs.lemmas.Str.{scalars-chars, IsUtf8-from_is_utf8}
 use Rattle.lt_texts.specs.declared.lexical.TokenKind.{TokenKind}
 use Rattle.lt_texts.specs.declared.lexical.TokenKind.TheVariants.{Name, TypeVariable, Number, CloseSquare, Close, OpenBrace, CloseBrace, Semicolon}
 use Rattle.lt_definitions.specs.Types.{Chars, TypeTree, TypeTrees, type_variable, type_constructor, no_types, type_and, row}
-use Rattle.lt_definitions.specs.Terms.{TermTree, free_variable, bound_name, constant, application, abstraction}
+use Rattle.lt_definitions.specs.Terms.{TermTree, free_variable, bound_name, constant, application, abstraction, HasNoLooseNames}
 use Rattle.lt_definitions.specs.Characters.{is_name, is_numeral, more_digits}
-use Rattle.lt_definitions.specs.Rules.{Rule, by_assume, by_weaken, by_refl, by_sym, by_trans, by_cong, by_abs, by_beta, by_eta, by_eqmp, by_impI, by_mp, by_allI, by_allE, by_iff, by_inst, by_tinst, by_select, by_ccontr, by_thm}
-use Rattle.lt_definitions.specs.Items.{Item, type_item, const_item, axiom_item, def_item, typedef_item, lemma_item}
+use Rattle.lt_definitions.specs.Typing.{Signature, Fault, type_fault, typed}
+use Rattle.lt_definitions.specs.Derivations.{term_fault, rule_fault, Derives}
+use Rattle.lt_definitions.specs.Extensions.{Proves}
+use Rattle.lt_definitions.specs.Theory.{refusal, AreValid}
+use Rattle.lt_definitions.proofs.TypingLemmas.{both-none}
+use Rattle.lt_nameless.proofs.Refusals.{accepted_is_valid}
+use Rattle.lt_nameless.proofs.TypeLaws.{typed_terms_have_no_loose_names}
+use Rattle.lt_nameless.proofs.Typings.{typed-has}
+use Rattle.lt_definitions.specs.Rules.{Sequent, Rule, by_assume, by_weaken, by_refl, by_sym, by_trans, by_cong, by_abs, by_beta, by_eta, by_eqmp, by_impI, by_mp, by_allI, by_allE, by_iff, by_inst, by_tinst, by_select, by_ccontr, by_thm}
+use Rattle.lt_definitions.specs.Items.{Context, empty, with_item, Item, type_item, const_item, axiom_item, def_item, typedef_item, lemma_item}
 use Rattle.lt_texts.specs.Gaps.{Blank, white, comment, with_gap}
 use Rattle.lt_texts.specs.Spelling.{is_spelt}
 use Rattle.lt_texts.specs.Texts.{Left, left_of}
@@ -38,8 +47,9 @@ use Rattle.lt_transport_definitions.specs.Answers.{first_wrong}
 use Rattle.lt_transport_definitions.specs.Parts.{tests_before}
 use Rattle.lt_transport_definitions.specs.Table.{row_of}
 use Rattle.lt_transport_definitions.specs.TheoryWalks.{theory_commands, items_of_blocks}
+use Rattle.lt_transport_laws.proofs.PlainWalks.{runs-plain}
 use Rattle.lt_transport_laws.proofs.RowLemmas.{Each, comes-each, comes-unless}
-use Rattle.lt_transport_laws.specs.LineStatements.{IsCounted, AreCounted, LinesAreReadable, IsSpelled, IsSpelledPiece, AreSpelled, NamedLinesAreOfText, HasLinesOfText, HaveLinesOfText, RunsHaveLinesOfText, IsReadableHead, HaveReadableHeads, RunsAreReadBack}
+use Rattle.lt_transport_laws.specs.LineStatements.{IsCounted, AreCounted, AreSmall, LinesAreReadable, IsSpelled, IsSpelledPiece, AreSpelled, NamedLinesAreOfText, HasLinesOfText, HaveLinesOfText, RunsHaveLinesOfText, IsReadableHead, HaveReadableHeads, RunsAreReadBack}
 
 -- ---- what is read has bytes
 
@@ -369,30 +379,70 @@ readable-on : (ps qs : List Piece) → AreReadable ps → AreReadable qs → Are
 readable-on [] qs h k = k
 readable-on (p ∷ ps) qs h k = (h.0, readable-on ps qs h.1 k)
 
-counted-split : (ps qs : List Piece) → AreCounted (ps ++ qs) → AreCounted ps × AreCounted qs
-counted-split [] qs h = (tt, h)
-counted-split (p ∷ ps) qs h = let k = counted-split ps qs h.1 in ((h.0, k.0), k.1)
+small-split : (ps qs : List Piece) → AreSmall (ps ++ qs) → AreSmall ps × AreSmall qs
+small-split [] qs h = (tt, h)
+small-split (p ∷ ps) qs h = let k = small-split ps qs h.1 in ((h.0, k.0), k.1)
 
-all-readable : (lines : List (Rule TermTree)) → AreOfText lines → AreCounted (flat_map line_text lines) → AreReadable (flat_map line_text lines)
-all-readable [] h c = tt
-all-readable (r ∷ lines) h c =
-    let k = counted-split (line_text r) (flat_map line_text lines) c in
-    readable-on (line_text r) (flat_map line_text lines) (lines-readable r h.0 k.0) (all-readable lines h.1 k.1)
+-- a term without a fault has no loose name
+none-loose : (sig : Signature) (t : TermTree) (r : Result TypeTree Fault) → typed sig [] t ≡ r → result_err r ≡ None → HasNoLooseNames t
+none-loose sig t (Ok ty) e n = typed_terms_have_no_loose_names sig t ty (typed-has sig [] t ty e)
+none-loose sig t (Err f) e n = absurd (cc)
 
-item-readable : (i : Item) → HasLinesOfText i → IsReadableHead i → IsReadableItem i
-item-readable (lemma_item l t lines) h k =
-    readable-on (head_text (lemma_item l t lines)) (sign_piece OpenBrace ∷ (flat_map line_text lines ++ sign_piece CloseBrace ∷ [])) k.0
-    (tt, readable-on (flat_map line_text lines) (sign_piece CloseBrace ∷ []) (all-readable lines h k.1) (tt, tt))
-item-readable (type_item n k) h r = r
-item-readable (const_item n ty) h r = r
-item-readable (axiom_item l t) h r = r
-item-readable (def_item n ty t) h r = r
-item-readable (typedef_item n xs t l a b) h r = r
+loose : (sig : Signature) (t : TermTree) → term_fault sig t ≡ None → HasNoLooseNames t
+loose sig t n = none-loose sig t (typed sig [] t) refl n
 
-items-readable : (items : List Item) → HaveLinesOfText items → HaveReadableHeads items → AreReadableItems items
-items-readable [] h r = tt
-items-readable (i ∷ items) h r = (item-readable i h.0 r.0, items-readable items h.1 r.1)
+-- so a line without a fault has none
+counted-line : (sig : Signature) (r : Rule TermTree) → rule_fault sig (term_fault sig) r ≡ None → AreSmall (line_text r) → AreCounted (line_text r)
+counted-line sig (by_assume p) e s = (tt, ((loose sig p e, s.1.0), (tt, tt)))
+counted-line sig (by_weaken p i) e s = (tt, ((loose sig p e, s.1.0), (tt, (tt, tt))))
+counted-line sig (by_refl t) e s = (tt, ((loose sig t e, s.1.0), (tt, tt)))
+counted-line sig (by_sym i) e s = (tt, (tt, (tt, tt)))
+counted-line sig (by_trans i j) e s = (tt, (tt, (tt, (tt, tt))))
+counted-line sig (by_cong i j) e s = (tt, (tt, (tt, (tt, tt))))
+counted-line sig (by_abs x ty i) e s = (tt, (tt, (tt, (tt, (tt, tt)))))
+counted-line sig (by_beta t) e s = (tt, ((loose sig t e, s.1.0), (tt, tt)))
+counted-line sig (by_eta t) e s = (tt, ((loose sig t e, s.1.0), (tt, tt)))
+counted-line sig (by_eqmp i j) e s = (tt, (tt, (tt, (tt, tt))))
+counted-line sig (by_impI p i) e s = (tt, ((loose sig p e, s.1.0), (tt, (tt, tt))))
+counted-line sig (by_mp i j) e s = (tt, (tt, (tt, (tt, tt))))
+counted-line sig (by_allI x ty i) e s = (tt, (tt, (tt, (tt, (tt, tt)))))
+counted-line sig (by_allE t i) e s = (tt, ((loose sig t e, s.1.0), (tt, (tt, tt))))
+counted-line sig (by_iff i j) e s = (tt, (tt, (tt, (tt, tt))))
+counted-line sig (by_inst x ty t i) e s =
+    (tt, (tt, (tt, ((loose sig t (both-none (type_fault sig ty) (term_fault sig t) e).1, s.1.1.1.0), (tt, (tt, tt))))))
+counted-line sig (by_tinst a ty i) e s = (tt, (tt, (tt, (tt, (tt, tt)))))
+counted-line sig (by_select p) e s = (tt, ((loose sig p e, s.1.0), (tt, tt)))
+counted-line sig (by_ccontr p) e s = (tt, ((loose sig p e, s.1.0), (tt, tt)))
+counted-line sig (by_thm l) e s = (tt, (tt, (tt, tt)))
+
+all-readable : (sig : Signature) (named : List (Chars × TermTree)) (done : List Sequent) (lines : List (Rule TermTree)) (ss : List Sequent)
+    → Derives sig named done lines ss → AreOfText lines → AreSmall (flat_map line_text lines) → AreReadable (flat_map line_text lines)
+all-readable sig named done [] ss d h c = tt
+all-readable sig named done (r ∷ lines) [] d h c = absurd d
+all-readable sig named done (r ∷ lines) (q ∷ ss) d h c =
+    let k = small-split (line_text r) (flat_map line_text lines) c in
+    readable-on (line_text r) (flat_map line_text lines) (lines-readable r h.0 (counted-line sig r d.0 k.0))
+    (all-readable sig named (done ++ q ∷ []) lines ss d.2 h.1 k.1)
+
+item-readable : (ctx : Context) (i : Item) → refusal ctx i ≡ None → HasLinesOfText i → IsReadableHead i → IsReadableItem i
+item-readable ctx (lemma_item l t lines) v h k =
+    let proves : Proves ctx lines t = ((accepted_is_valid ctx (lemma_item l t lines)).0 v).2 in
+    readable-on (head_text (lemma_item l t lines)) (sign_piece OpenBrace ∷ (flat_map line_text lines ++ sign_piece CloseBrace ∷ [])) k.0 (
+      tt,
+      readable-on (flat_map line_text lines) (sign_piece CloseBrace ∷ [])
+          (all-readable ctx.signature ctx.statements [] lines (proves.0 ++ proves.1 ∷ []) proves.2 h k.1) (tt, tt),
+    )
+item-readable ctx (type_item n k) v h r = r
+item-readable ctx (const_item n ty) v h r = r
+item-readable ctx (axiom_item l t) v h r = r
+item-readable ctx (def_item n ty t) v h r = r
+item-readable ctx (typedef_item n xs t l a b) v h r = r
+
+items-readable : (ctx : Context) (items : List Item) → AreValid ctx items → HaveLinesOfText items → HaveReadableHeads items → AreReadableItems items
+items-readable ctx [] v h r = tt
+items-readable ctx (i ∷ items) v h r = (item-readable ctx i v.0 h.0 r.0, items-readable (with_item ctx i) items v.1 h.1 r.1)
 
 pub runs-read : RunsAreReadBack
 runs-read limit text blocks end h r =
-    printed_items_are_read (items_of_blocks blocks) (items-readable (items_of_blocks blocks) (runs-lines limit text blocks end h) r)
+    printed_items_are_read (items_of_blocks blocks)
+    (items-readable empty (items_of_blocks blocks) (runs-plain limit text blocks end h) (runs-lines limit text blocks end h) r)

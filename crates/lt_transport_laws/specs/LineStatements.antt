@@ -72,10 +72,19 @@ RunsHaveLinesOfText =
     (limit : ℕ) (text : List ℕ) (blocks : List (List Item)) (end : End CommandRefusal)
     → RunsText limit text blocks end → HaveLinesOfText (items_of_blocks blocks)
 
--- What an item states and adds is readable, and the terms of its lines are counted.
+-- Numbers of 64 bits count the binders of a term of a line.
+abbrev pub IsSmall : Piece → Type 0
+IsSmall (term_piece t) = binder_count t < 2 ^ 64
+IsSmall _ = Unit {0}
+
+abbrev pub AreSmall : List Piece → Type 0
+AreSmall [] = Unit {0}
+AreSmall (p ∷ ps) = IsSmall p × AreSmall ps
+
+-- What an item states and adds is readable, and the terms of its lines have no more binders.
 abbrev pub IsReadableHead : Item → Type 0
 IsReadableHead (lemma_item l t lines) =
-    AreReadable (head_text (lemma_item l t lines)) × AreCounted (flat_map line_text lines)
+    AreReadable (head_text (lemma_item l t lines)) × AreSmall (flat_map line_text lines)
 IsReadableHead item = IsReadableItem item
 
 abbrev pub HaveReadableHeads : List Item → Type 0

@@ -46,8 +46,7 @@ pub fn lines_are_of_text()
 {}
 
 /// What is printed of a run is read back as items alike, where what its items state is readable: of
-/// the lines of their lemmas nothing is asked but that no bound name is loose, and that fewer than
-/// 2^64 binders stand in a term.
+/// the lines of their lemmas nothing is asked but that in a term fewer than 2^64 binders stand.
 pub fn runs_are_read_back()
     ensures { RunsAreReadBack }
 {}
