@@ -1,9 +1,9 @@
 -- What a quotient's theorem says, its tests, and the blocks that follow a quotient.
 -- Source: setup_lifting of Isabelle; the tests and the blocks are this project's own.
-use Rattle.std.specs.Prelude.{List, [], ◌∷◌, ◌++◌, Bool, true, false, ◌&&◌, ◌||◌, not, if◌then◌else◌, map, Option, Some, None, codes, option_and_then}
+use Rattle.std.specs.Prelude.{List, [], ◌∷◌, ◌++◌, Bool, false, ◌&&◌, ◌||◌, not, map, Option, Some, None, codes}
 use Rattle.std.specs.List.{list_all}
 use Prim.Native.String.{String}
-use Rattle.lt_definitions.specs.Types.{Chars, same_name, has_name, TypeTree, type_variable, type_constructor, TypeTrees, no_types, type_and, bool, row, types_names, type_variables}
+use Rattle.lt_definitions.specs.Types.{Chars, same_name, TypeTree, type_variable, type_constructor, TypeTrees, no_types, type_and, bool, type_variables}
 use Rattle.lt_definitions.specs.Terms.{TermTree, constant, application, term_names}
 use Rattle.lt_definitions.specs.Typing.{Signature}
 use Rattle.lt_definitions.specs.Printing.{type_variable_name}
@@ -12,7 +12,7 @@ use Rattle.lt_transport_definitions.specs.Constants.{is_counted, apply, rel_fun,
 use Rattle.lt_transport_definitions.specs.Relations.{Property, Correspondence}
 use Rattle.lt_transport_definitions.specs.Answers.{wrong_where, only_where}
 use Rattle.lt_transport_definitions.specs.Forms.{constructor_name}
-use Rattle.lt_transport_definitions.specs.Sessions.{Four, QuotientEntry, constant_name}
+use Rattle.lt_transport_definitions.specs.Sessions.{QuotientEntry, constant_name}
 use Rattle.lt_transport_definitions.specs.Commands.{CommandRefusal, because, Addition, Registration, corr_registered, property_registered, domain_registered, rule_registered, quotient_registered}
 use Rattle.lt_transport_definitions.specs.Rows.{lemma_of}
 

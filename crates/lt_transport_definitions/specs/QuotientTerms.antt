@@ -4,7 +4,7 @@
 use Rattle.std.specs.Prelude.{List, [], ◌∷◌, if◌then◌else◌, map, codes, unwrap_or, option_map}
 use Rattle.lt_definitions.specs.Types.{Chars, same_name, TypeTree, TypeMap, type_instance}
 use Rattle.lt_definitions.specs.Terms.{term_instance}
-use Rattle.lt_transport_definitions.specs.Notation.{WithType, result_type, domain_type, equality_at}
+use Rattle.lt_transport_definitions.specs.Notation.{WithType, domain_type, equality_at}
 use Rattle.lt_transport_definitions.specs.Constants.{table_constant, apply, relcompp, map_fun}
 use Rattle.lt_transport_definitions.specs.Relations.{Registry, relator_of, relator_for}
 use Rattle.lt_transport_definitions.specs.RelatorForm.{relator_term, mapping_term}

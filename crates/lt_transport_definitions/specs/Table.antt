@@ -2,7 +2,7 @@
 -- registers. The tests of its parts and names stand before them.
 -- Source: after the commands of Isabelle's Lifting and Transfer packages; the tests are this
 -- project's own.
-use Rattle.std.specs.Prelude.{[], ◌∷◌, not, map, codes, Option, unwrap_or, is_some, ◌++◌, nat_lt, false, option_map, ◌+◌, ◌||◌, length, nat_eq, position}
+use Rattle.std.specs.Prelude.{[], ◌∷◌, not, map, codes, Option, unwrap_or, is_some, ◌++◌, nat_lt, option_map, ◌+◌, ◌||◌, length, nat_eq, position}
 use Rattle.lt_definitions.specs.Types.{Chars, are_distinct, type_variables, type_instance}
 use Rattle.lt_definitions.specs.Typing.{Signature}
 use Rattle.lt_definitions.specs.Alpha.{is_alpha, is_same_up_to_types}

@@ -1,7 +1,7 @@
 -- Some outcome comes of each command that asks for no image, and for no quotient of before.
-use Rattle.std.specs.Prelude.{◌≡◌, List, [], ◌∷◌, Bool, true, false, Option, Some, None, Result, Ok, Err, option_map}
+use Rattle.std.specs.Prelude.{◌≡◌, List, [], ◌∷◌, Option, Some, None, Result, Ok, Err, option_map}
 use Rattle.std.specs.Result.{result_err, result_unwrap_or}
-use Rattle.std.proofs.Common.{refl, subst, sym, ap, ◌∙◌}
+use Rattle.std.proofs.Common.{refl}
 use Rattle.lt_definitions.specs.Types.{Chars, TypeTree, row, bool}
 use Rattle.lt_definitions.specs.Terms.{TermTree}
 use Rattle.lt_definitions.specs.Typing.{Fault, type_fault, typed}
@@ -16,7 +16,7 @@ use Rattle.lt_transport_definitions.specs.Rows.{BlockOutcome, Row, ◌⊳◌, wi
 use Rattle.lt_transport_definitions.specs.Parts.{tests_before}
 use Rattle.lt_transport_definitions.specs.Table.{row_of}
 use Rattle.lt_transport_definitions.specs.Blocks.{no_quotient, Unless, OfValue, OfForm, ComesOfRow, ComesOf}
-use Rattle.lt_transport_laws.specs.OrderStatements.{IsOrderedSession, asks_more, OutcomesExist}
+use Rattle.lt_transport_laws.specs.OrderStatements.{IsOrderedSession, OutcomesExist}
 use Rattle.lt_transport_laws.proofs.OrderedSessions.{type-sound, have-quotients}
 use Rattle.lt_transport_laws.proofs.TheorySessions.{theory-context}
 

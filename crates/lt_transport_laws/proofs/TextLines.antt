@@ -1,5 +1,5 @@
 -- Lines that some text has, and that the lines of a run's lemmas are such.
-use Rattle.std.proofs.Common.{◌≡◌, ℕ, zero, suc, ap, sym, refl, subst, Bool, true, false, List, [], ◌∷◌, ◌++◌, length, take, codes, Some, None, Result, Ok, Err, inl, inr}
+use Rattle.std.proofs.Common.{◌≡◌, ℕ, zero, suc, ap, sym, refl, subst, Bool, true, false, List, [], ◌∷◌, ◌++◌, length, take, Some, None, Result, Ok, Err, inl, inr}
 use Rattle.std.specs.Prelude.{◌^◌, ◌&&◌, ◌==◌, if◌then◌else◌, nat_lt, IsUtf8}
 use Rattle.std.specs.List.{flat_map}
 use Rattle.std.specs.Result.{result_err}
