@@ -25,6 +25,7 @@ use Rattle.lt_transport_laws.proofs.RowFacts.{EachBlock, comes-block}
 use Rattle.lt_transport_laws.proofs.RegistriesStay.{form-same}
 use Rattle.lt_transport_laws.proofs.StatedLabels.{additions-keep, States, additions-state, all-keep, map-one, flat-one, unless-one}
 use Rattle.lt_transport_laws.proofs.FormLabels.{property-label, domain-label}
+use Rattle.lt_transport_laws.proofs.TheoremForms.{quotient-is}
 
 -- the same as being in step, where the context is told
 pub record IsInStepAt (ctx : Context) (s : Session) : Type 0 where
@@ -283,7 +284,9 @@ in-rows s (property_command l) = λ t e rule f n.
 in-rows s (domain_command l) = λ t e rule f n.
     ((subst (Known s []) (sym (domain-label (signature_of s) s.registry l t rule f)) (found-known s [] l t e), tt), tt)
 in-rows s (rule_command l) = λ t e rule f n. ((found-known s [] l t e, tt), tt)
-in-rows s (lifting_command l) = λ t e n quot f m x g o p q u v. (tt, ((inl (ap is_some e), tt), ((inr (inl refl), tt), ((inr (inr (inl refl)), tt), ((inr (inr (inr (inl refl))), tt), ((inr (inr (inr (inr (inl refl)))), tt), tt))))))
+in-rows s (lifting_command l) = λ t e n quot f m x g o p q u v.
+    let same : quot.label ≡ l = (quotient-is (signature_of s) l t quot f).6 in
+    (tt, ((inl (subst (IsStated s.context) (sym same) (ap is_some e)), tt), ((inr (inl refl), tt), ((inr (inr (inl refl)), tt), ((inr (inr (inr (inl refl))), tt), ((inr (inr (inr (inr (inl refl)))), tt), tt))))))
 in-rows s (lifting_typedef_command q) = λ n t e m. ((inr (inr (inr (inl refl))), tt), (tt, ((inr (inr (inl refl)), tt), ((inr (inr (inr (inr (inl refl)))), tt), ((inr (inr (inr (inr (inr (inl refl))))), tt), ((inr (inr (inr (inr (inr (inr (inl refl)))))), tt), ((inr (inr (inr (inr (inr (inr (inr (inl refl))))))), tt), tt)))))))
 in-rows s (quotient_type_command q params r l) = λ t e n m o p u v w. (tt, ((inr (inr (inr (inr (inr (inr (inl refl)))))), tt), ((inr (inr (inr (inr (inr (inr (inr (inl refl))))))), tt), ((inr (inr (inr (inr (inr (inr (inr (inr (inl refl)))))))), tt), ((inr (inr (inr (inr (inr (inr (inr (inr (inr (inl refl))))))))), tt), ((inr (inr (inr (inr (inr (inr (inr (inr (inr (inr (inl refl)))))))))), tt), tt))))))
 in-rows s (lift_command n ty t l) = λ respects e m o q p u. lifted-known s n ty (with_its_type (signature_of s) t) l (four_of s.registry q) (ap is_some e)

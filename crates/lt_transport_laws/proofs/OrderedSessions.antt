@@ -5,7 +5,7 @@ use Rattle.std.specs.Result.{result_unwrap_or}
 use Rattle.std.proofs.Common.{refl, sym, ap, ◌∙◌, subst, inl, inr}
 use Rattle.std.proofs.lemmas.Bool.{and_parts}
 use Rattle.lt_definitions.specs.Types.{Chars, same_name, found, TypeTree, type_variable, type_constructor, no_types, type_and, row, bool, fun, same_type}
-use Rattle.lt_definitions.specs.Terms.{TermTree, free_variable, bound_name, constant, application, abstraction}
+use Rattle.lt_definitions.specs.Terms.{TermTree, constant, application}
 use Rattle.lt_definitions.specs.Typing.{Signature, Fault, type_fault, types_fault, typed, HasType}
 use Rattle.lt_definitions.specs.Rules.{type_of}
 use Rattle.lt_definitions.specs.Items.{Item, type_item, const_item, axiom_item, def_item, typedef_item, lemma_item, Context, new_type, raw_type, with_typedef, with_item}
@@ -21,15 +21,13 @@ use Rattle.lt_nameless.proofs.StatementTypes.{IsSound, sound-items, sound-fun, t
 use Rattle.lt_nameless.proofs.Typings.{typed-has, has-typed}
 use Rattle.lt_transport_definitions.specs.Notation.{WithType, domain_type}
 use Rattle.lt_transport_definitions.specs.Patterns.{relation_sides}
-use Rattle.lt_transport_definitions.specs.Constants.{is_counted}
 use Rattle.lt_transport_definitions.specs.Answers.{first_wrong}
 use Rattle.lt_transport_definitions.specs.RuleForm.{TransferRule}
 use Rattle.lt_transport_definitions.specs.Sessions.{Typedef, QuotientEntry, Session, typedef_of}
 use Rattle.lt_texts.specs.Commands.{Command, item_command, law_command, corr_command, relator_command, property_command, domain_command, rule_command, lifting_command, lifting_typedef_command, quotient_type_command, lift_command, parametric_command, param_rule_command, equiv_command, implies_command, carry_command, abs_eq_command, rep_eq_command}
 use Rattle.lt_transport_definitions.specs.Commands.{Addition, this_item, a_lemma, Registration, law_registered, corr_registered, relator_registered, form_registered, property_registered, domain_registered, rule_registered, quotient_registered, lifted_registered, transport_registered, Block, item_of, with_typedef_of, with_addition, with_registration, session_behind}
 use Rattle.lt_transport_definitions.specs.Parts.{tests_before}
-use Rattle.lt_transport_definitions.specs.Forms.{constructor_name}
-use Rattle.lt_transport_definitions.specs.QuotientBlocks.{entry_between, as_quotient, is_in_order, quotient_test}
+use Rattle.lt_transport_definitions.specs.QuotientBlocks.{as_quotient, is_in_order, quotient_test}
 use Rattle.lt_transport_definitions.specs.QuotientRows.{raw_of, typedef_entry, adds_typedef_quotient, is_relation_on_one, class_entry, adds_class_quotient}
 use Rattle.lt_transport_definitions.specs.Rows.{Row, adds, with_its_type}
 use Rattle.lt_transport_definitions.specs.Table.{row_of}
@@ -42,6 +40,7 @@ use Rattle.lt_transport_laws.proofs.PlainWalks.{adds-same}
 use Rattle.lt_transport_laws.proofs.QuotientsExist.{quotients-exist}
 use Rattle.lt_transport_laws.proofs.RowFacts.{EachBlock, comes-block}
 use Rattle.lt_transport_laws.proofs.RowLemmas.{comes-unless}
+use Rattle.lt_transport_laws.proofs.TheoremForms.{quotient-is}
 use Rattle.lt_transport_laws.proofs.TheorySessions.{theory-kept, theory-stated, theory-context}
 
 -- what additions declare
@@ -182,60 +181,6 @@ quotients-kept s (a ∷ additions) = quotients-kept (with_addition s a) addition
 pub test-holds : (b : Bool) (part : String) → quotient_test b part ≡ None → b ≡ true
 test-holds true part e = refl
 test-holds false part e = absurd (cc)
-
-quotient-named : (sig : Signature) (l c : Chars) (raw abs : TypeTree) (R A B T : TermTree) (q : QuotientEntry)
-    → as_quotient sig l (application (application (application (application (constant c (raw ∷ abs ∷ [])) R) A) B) T) ≡ Some q
-    → (c' : Chars) × (A' : TermTree) × (B' : TermTree) × (T' : TermTree)
-    × (application (application (application (application (constant c (raw ∷ abs ∷ [])) R) A) B) T
-    ≡ application (application (application (application (constant c' (q.raw_type ∷ q.abs_type ∷ [])) q.four.rel.term) A') B') T')
-    × (constructor_name q.abs_type ≡ q.con)
-quotient-named sig l c raw abs R A B T q e = elim (bool_cases (same_name c (codes "Quotient") && is_counted sig c)) [
-  | inl t ↦
-      let x : Some (entry_between l raw abs R A B T false) ≡ Some q =
-      sym (if-true (same_name c (codes "Quotient") && is_counted sig c) (Some (entry_between l raw abs R A B T false)) None t) ∙ e in
-      let y : entry_between l raw abs R A B T false ≡ q = cc in (
-        c,
-        A,
-        B,
-        T,
-        (λ i. application (application (application (application (constant c ((y i).raw_type ∷ (y i).abs_type ∷ [])) (y i).four.rel.term) A) B) T),
-        subst (λ (d : QuotientEntry). constructor_name d.abs_type ≡ d.con) y refl,
-      )
-  | inr t ↦ absurd (none-some q (sym (if-false (same_name c (codes "Quotient") && is_counted sig c)
-      (Some (entry_between l raw abs R A B T false)) None t) ∙ e))
-]
-  where
-    none-some : (q : QuotientEntry) → ◌≡◌ {A = Option QuotientEntry} None (Some q) → ⊥
-    none-some q e = cc
-
-pub quotient-is : (sig : Signature) (l : Chars) (t : TermTree) (q : QuotientEntry) → as_quotient sig l t ≡ Some q
-    → (c : Chars) × (A : TermTree) × (B : TermTree) × (T : TermTree)
-    × (t ≡ application (application (application (application (constant c (q.raw_type ∷ q.abs_type ∷ [])) q.four.rel.term) A) B) T)
-    × (constructor_name q.abs_type ≡ q.con)
-quotient-is sig l (free_variable x ty) q e = absurd (cc)
-quotient-is sig l (bound_name x) q e = absurd (cc)
-quotient-is sig l (constant c ts) q e = absurd (cc)
-quotient-is sig l (abstraction x ty b) q e = absurd (cc)
-quotient-is sig l (application (free_variable x ty) T) q e = absurd (cc)
-quotient-is sig l (application (bound_name x) T) q e = absurd (cc)
-quotient-is sig l (application (constant c ts) T) q e = absurd (cc)
-quotient-is sig l (application (abstraction x ty b) T) q e = absurd (cc)
-quotient-is sig l (application (application (free_variable x ty) B) T) q e = absurd (cc)
-quotient-is sig l (application (application (bound_name x) B) T) q e = absurd (cc)
-quotient-is sig l (application (application (constant c ts) B) T) q e = absurd (cc)
-quotient-is sig l (application (application (abstraction x ty b) B) T) q e = absurd (cc)
-quotient-is sig l (application (application (application (free_variable x ty) A) B) T) q e = absurd (cc)
-quotient-is sig l (application (application (application (bound_name x) A) B) T) q e = absurd (cc)
-quotient-is sig l (application (application (application (constant c ts) A) B) T) q e = absurd (cc)
-quotient-is sig l (application (application (application (abstraction x ty b) A) B) T) q e = absurd (cc)
-quotient-is sig l (application (application (application (application (free_variable x ty) R) A) B) T) q e = absurd (cc)
-quotient-is sig l (application (application (application (application (bound_name x) R) A) B) T) q e = absurd (cc)
-quotient-is sig l (application (application (application (application (application f g) R) A) B) T) q e = absurd (cc)
-quotient-is sig l (application (application (application (application (abstraction x ty b) R) A) B) T) q e = absurd (cc)
-quotient-is sig l (application (application (application (application (constant c []) R) A) B) T) q e = absurd (cc)
-quotient-is sig l (application (application (application (application (constant c (t ∷ [])) R) A) B) T) q e = absurd (cc)
-quotient-is sig l (application (application (application (application (constant c (t ∷ u ∷ w ∷ ts)) R) A) B) T) q e = absurd (cc)
-quotient-is sig l (application (application (application (application (constant c (raw ∷ abs ∷ [])) R) A) B) T) q e = quotient-named sig l c raw abs R A B T q e
 
 theorem-sound : (sig : Signature) (l : Chars) (t : TermTree) (q : QuotientEntry) → HasType sig [] t bool → as_quotient sig l t ≡ Some q
     → type_fault sig q.raw_type ≡ None

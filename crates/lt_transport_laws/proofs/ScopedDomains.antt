@@ -24,9 +24,10 @@ use Rattle.lt_transport_laws.specs.SessionStatements.{AreScopedDomains}
 use Rattle.lt_transport_laws.specs.OrderStatements.{IsOrderedSession}
 use Rattle.lt_transport_laws.proofs.FormLabels.{domain_equation}
 use Rattle.lt_transport_laws.proofs.LooseNames.{head-none, argument-none}
-use Rattle.lt_transport_laws.proofs.OrderedSessions.{test-holds, quotient-is, relation-is, related-typed, found-typedef}
+use Rattle.lt_transport_laws.proofs.OrderedSessions.{test-holds, relation-is, related-typed, found-typedef}
 use Rattle.lt_transport_laws.proofs.RowFacts.{EachBlock}
 use Rattle.lt_transport_laws.proofs.ScopedRules.{body-none}
+use Rattle.lt_transport_laws.proofs.TheoremForms.{quotient-is}
 use Rattle.lt_transport_laws.proofs.TheorySessions.{theory-stated}
 
 -- an optional domain equation whose domain has its binders
