@@ -70,13 +70,13 @@ def at_terms(a, variables, terms):
 
     It's done by `inst` where some order keeps them apart.
     """
-    closed = a
+    given = a
     left = [(x, t) for x, t in zip(variables, terms) if x is not t]
     while left:
         ready = [(x, t) for x, t in left
                  if not any(has_variable(t, other) for other, _ in left if other is not x)]
         if not ready:
-            return at(generalize(closed, *variables), *terms)
+            return at(generalize(given, *variables), *terms)
         a = inst(*ready[0], a)
         left.remove(ready[0])
     return a
