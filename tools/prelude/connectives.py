@@ -16,8 +16,7 @@ def conjunction_of(p, q):
 
 def parts(a):
     """p and q, from and p q."""
-    head, (p, q) = head_and_arguments(a.conclusion)
-    assert head is constant('and')
+    _, (p, q) = head_and_arguments(a.conclusion)
     return p, q
 
 

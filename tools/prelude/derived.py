@@ -8,6 +8,7 @@ an instance of that. `shortest.py` chooses for each lemma what is switched.
 from contextlib import contextmanager
 from functools import cached_property
 
+from printing import show_term, show_type
 from terms import (Application, Free, TypeVariable, has_variable, instantiate_type, match_type,
                    term_type_variables, type_variables, universal_parts)
 from theorem import (AT_HAND, THEORY, allE, allI, assume, declare, impI, inst, mp, statement, thm,
@@ -70,24 +71,34 @@ def at_terms(a, variables, terms):
 
     It's done by `inst` where some order keeps them apart.
     """
-    closed = a
+    given = a
     left = [(x, t) for x, t in zip(variables, terms) if x is not t]
     while left:
         ready = [(x, t) for x, t in left
                  if not any(has_variable(t, other) for other, _ in left if other is not x)]
         if not ready:
-            return at(generalize(closed, *variables), *terms)
+            return at(generalize(given, *variables), *terms)
         a = inst(*ready[0], a)
         left.remove(ready[0])
     return a
 
 
+class NoInstance(Exception):
+    """Terms whose types are no instance of what they are put for."""
+
+
+def matching_types(patterns, terms):
+    """The types for type variables by which the patterns are the types of the terms."""
+    types = {}
+    for pattern, t in zip(patterns, terms):
+        if not match_type(pattern, type_of(t), types):
+            raise NoInstance('%s at %s' % (show_type(pattern), show_term(t)))
+    return types
+
+
 def types_of_instance(variables, terms):
     """The types for type variables that give the variables the types of the terms."""
-    types = {}
-    for x, t in zip(variables, terms):
-        assert match_type(x.type, type_of(t), types), (x.name, x.type, t)
-    return types
+    return matching_types([x.type for x in variables], terms)
 
 
 def instance(a, variables, terms):
@@ -105,17 +116,16 @@ def is_there(label):
 def law(label, *terms):
     """An earlier lemma at terms, whose types tell its type variables."""
     a = thm(label)
-    return at(at_types(a, types_of_binders(a.conclusion, terms)), *terms)
+    types = matching_types(types_of_binders(a.conclusion), terms)
+    return at(at_types(a, types), *terms)
 
 
-def types_of_binders(conclusion, terms):
-    """The types for type variables by which the outermost binders have the types of the terms."""
-    types = {}
-    for t in terms:
-        type_, predicate = universal_parts(conclusion)
-        assert match_type(type_, type_of(t), types), t
-        conclusion = predicate.body
-    return types
+def types_of_binders(term):
+    """The types of the variables over which a statement is closed, one by one."""
+    while parts := universal_parts(term):
+        type_, predicate = parts
+        yield type_
+        term = predicate.body
 
 
 # ---------------------------------------------------------------- derived rules
