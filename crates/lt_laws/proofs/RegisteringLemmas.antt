@@ -1,5 +1,5 @@
 -- Laws that are registered, and those that are missing.
-use Rattle.std.proofs.Common.{◌≡◌, ℕ, zero, suc, ◌+◌, List, [], ◌∷◌, ◌++◌, drop, add-one, slice_get, find, Bool, true, false, ◌||◌, is_some, if◌then◌else◌, Option, Some, None, refl, sym, ◌∙◌, ap, subst, nat_eq}
+use Rattle.std.proofs.Common.{◌≡◌, ℕ, zero, suc, ◌+◌, List, [], ◌∷◌, ◌++◌, drop, add-one, slice_get, find, Bool, true, false, ◌||◌, is_some, if◌then◌else◌, Option, Some, None, refl, sym, ◌∙◌, ap, nat_eq}
 use Rattle.std.specs.Option.{is_none}
 use Rattle.std.specs.List.{list_any}
 use Rattle.std.specs.Cmp.Lexicographic.{pointwise}
@@ -42,14 +42,12 @@ missing-later wanted laws i w e h =
 -- whether a law is there
 there-found : (w : Chars) (laws : Registered) → list_any (λ (p : Chars × Chars). same_name w p.0) laws ≡ is_some (found w laws)
 there-found w [] = refl
-there-found w (p ∷ ps) = by (same_name w p.0) refl
+there-found w (p ∷ ps) = by (there-found w ps) (same_name w p.0) refl
   where
-    rest : list_any (λ (q : Chars × Chars). same_name w q.0) ps ≡ is_some (found w ps)
-    rest = there-found w ps
-
-    by : (b : Bool) → same_name w p.0 ≡ b → (same_name w p.0 || list_any (λ (q : Chars × Chars). same_name w q.0) ps) ≡ is_some (if same_name w p.0 then Some p.1 else found w ps)
-    by true e = ap (λ c. c || list_any (λ (q : Chars × Chars). same_name w q.0) ps) e ∙ sym (ap (λ c. is_some (if c then Some p.1 else found w ps)) e)
-    by false e = ap (λ c. c || list_any (λ (q : Chars × Chars). same_name w q.0) ps) e ∙ rest ∙ sym (ap (λ c. is_some (if c then Some p.1 else found w ps)) e)
+    by : list_any (λ (q : Chars × Chars). same_name w q.0) ps ≡ is_some (found w ps) → (b : Bool) → same_name w p.0 ≡ b
+        → (same_name w p.0 || list_any (λ (q : Chars × Chars). same_name w q.0) ps) ≡ is_some (if same_name w p.0 then Some p.1 else found w ps)
+    by rest true e = ap (λ c. c || list_any (λ (q : Chars × Chars). same_name w q.0) ps) e ∙ sym (ap (λ c. is_some (if c then Some p.1 else found w ps)) e)
+    by rest false e = ap (λ c. c || list_any (λ (q : Chars × Chars). same_name w q.0) ps) e ∙ rest ∙ sym (ap (λ c. is_some (if c then Some p.1 else found w ps)) e)
 
 -- a law that is there stays
 pub law-there : (w l : Chars) (laws : Registered) → is_some (found w laws) ≡ true → laws ≡ with_law w l laws
