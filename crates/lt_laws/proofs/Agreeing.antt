@@ -1,5 +1,5 @@
 -- The texts of the table are those of the laws.
-use Rattle.std.proofs.Common.{◌≡◌, ℕ, Bor, inl, inr, List, [], ◌∷◌, Option, Some, None, true, false, if◌then◌else◌, refl, sym, ◌∙◌, ap}
+use Rattle.std.proofs.Common.{◌≡◌, ℕ, Bor, inl, inr, List, [], ◌∷◌, Option, Some, None, if◌then◌else◌, refl, sym, ◌∙◌, ap}
 use Rattle.std.specs.Prelude.{option_map, option_and_then}
 use Rattle.std.specs.Option.{option_copied}
 use Rattle.std.proofs.lemmas.Bool.{cases_Bool, cond-true, cond-false}

@@ -1,5 +1,5 @@
 -- A law at types and terms is what its statement's instance gives.
-use Rattle.std.proofs.Common.{◌≡◌, ℕ, Bor, inl, inr, List, [], ◌∷◌, ◌&&◌, Bool, true, false, if◌then◌else◌, map, reverse, is_some, unwrap_or, Option, Some, None, Result, Ok, Err, codes, refl, sym, ◌∙◌, ap}
+use Rattle.std.proofs.Common.{◌≡◌, Bor, inl, inr, List, [], ◌∷◌, ◌&&◌, Bool, true, false, if◌then◌else◌, map, unwrap_or, Option, Some, None, Ok, codes, refl, sym, ◌∙◌, ap}
 use Rattle.std.specs.Option.{option_copied}
 use Rattle.std.proofs.lemmas.Bool.{cases_Bool, cond-true, cond-false, and_parts}
 use Rattle.lt_definitions.specs.Types.{Chars, found, same_name, TypeTree, same_type, TypeMap, type_instance}

@@ -1,6 +1,6 @@
 -- A small notation for instances of laws.
 -- Source: this project's own.
-use Rattle.std.specs.Prelude.{ℕ, List, [], ◌∷◌, map, codes}
+use Rattle.std.specs.Prelude.{ℕ, List, map, codes}
 use Prim.Native.String.{String}
 use Rattle.lt_definitions.specs.Types.{TypeTree, TypeMap, type_instance}
 use Rattle.lt_nameless.specs.Nameless.{Nameless, nameless_bound, nameless_constant, nameless_application, nameless_abstraction}

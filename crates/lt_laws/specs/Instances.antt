@@ -1,7 +1,7 @@
 -- Laws at types and terms.
 -- Source: this project's own.
-use Rattle.std.specs.Prelude.{◌≡◌, ℕ, List, [], ◌∷◌, ◌&&◌, if◌then◌else◌, is_some, true, map, reverse, unwrap_or, Some, None, Result, Ok, Err, codes}
-use Rattle.lt_definitions.specs.Types.{Chars, found, same_name, TypeTree, same_type, TypeMap, type_instance}
+use Rattle.std.specs.Prelude.{◌≡◌, ℕ, List, [], ◌∷◌, ◌&&◌, if◌then◌else◌, is_some, true, reverse, unwrap_or, Some, None, Result, Ok, Err, codes}
+use Rattle.lt_definitions.specs.Types.{Chars, found, same_name, TypeTree, same_type, TypeMap}
 use Rattle.lt_definitions.specs.Terms.{bound_name}
 use Rattle.lt_definitions.specs.Rules.{line_at}
 use Rattle.lt_nameless.specs.Nameless.{Nameless, nameless, nameless_constant, nameless_application, nameless_abstraction, NamelessSequent}
