@@ -3,6 +3,7 @@ use crate::terms::{begun, name, put, ty};
 use lt_hol::{List, TyMap};
 use lt_kernel::{Proof, sure};
 use lt_store::{Id, TermStore, longest_free, type_at};
+use lt_tables::term_of;
 use std::alloc::Global;
 use std::process::Abort;
 use std::test::Fail;
@@ -68,10 +69,16 @@ fn puts_types<S: TermStore>(alloc: Global, proof: &mut Proof<S>) -> Result<(), F
     Ok(())
 }
 
-/// A term in a store has its type.
+/// A constant in a store has its type.
 fn is_typed<S: TermStore>(alloc: Global, proof: &mut Proof<S>) -> Result<(), Fail> {
-    let p = put(alloc, proof, "p$")?;
-    let _ = type_at(alloc, &*proof, proof.signature(), p)?;
+    let imp = put(alloc, proof, "i#")?;
+    let _ = type_at(alloc, &*proof, proof.signature(), imp)?;
+    Ok(())
+}
+
+#[test]
+fn a_text_is_a_term(rt: HostRuntime) -> Result<(), Fail> {
+    assert!(rt; term_of(rt.alloc(), "o$")?.is_some());
     Ok(())
 }
 
