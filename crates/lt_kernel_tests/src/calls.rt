@@ -11,10 +11,16 @@ use std::test::Fail;
 #[test]
 fn a_proof_is_a_store(rt: HostRuntime) -> Result<(), Fail> {
     let mut proof = begun(rt.alloc())?;
-    let made = redex(rt.alloc(), &rt, &mut proof)?;
+    stores(rt.alloc(), &rt, &mut proof)
+}
+
+/// The calls of a store at a proof, and the length of a name in it.
+fn stores<S: TermStore>(alloc: Global, rt: &impl Abort, proof: &mut Proof<S>) -> Result<(), Fail> {
+    let made = redex(alloc, rt, proof)?;
     assert!(rt; made < proof.len());
-    assert!(rt; proof.same(rt.alloc(), made, made)?);
-    assert_eq!(rt; longest_free(rt.alloc(), &mut proof, &[made])?, 1);
+    let is = proof.same(alloc, made, made)?;
+    assert!(rt; is);
+    assert_eq!(rt; longest_free(alloc, proof, &[made])?, 1);
     Ok(())
 }
 
@@ -37,10 +43,15 @@ fn redex<S: TermStore>(alloc: Global, rt: &impl Abort, store: &mut S) -> Result<
 #[test]
 fn a_proof_passes_over_its_own_terms(rt: HostRuntime) -> Result<(), Fail> {
     let mut proof = begun(rt.alloc())?;
-    opens(rt.alloc(), &rt, &mut proof)?;
-    closes(rt.alloc(), &mut proof)?;
-    puts_types(rt.alloc(), &mut proof)?;
-    is_typed(rt.alloc(), &mut proof)
+    passes(rt.alloc(), &rt, &mut proof)
+}
+
+/// Each pass, and the type of a term.
+fn passes<S: TermStore>(alloc: Global, rt: &impl Abort, proof: &mut Proof<S>) -> Result<(), Fail> {
+    opens(alloc, rt, proof)?;
+    closes(alloc, proof)?;
+    puts_types(alloc, proof)?;
+    is_typed(alloc, proof)
 }
 
 /// A variable is closed, and opened by another.
@@ -85,7 +96,12 @@ fn a_text_is_a_term(rt: HostRuntime) -> Result<(), Fail> {
 #[test]
 fn a_sure_line_is_there(rt: HostRuntime) -> Result<(), Fail> {
     let mut proof = begun(rt.alloc())?;
-    let p = put(rt.alloc(), &mut proof, "p$")?;
-    assert_eq!(rt; sure::refl(rt.alloc(), &mut proof, p)?, 1);
+    is_sure(rt.alloc(), &rt, &mut proof)
+}
+
+/// The first line.
+fn is_sure<S: TermStore>(alloc: Global, rt: &impl Abort, proof: &mut Proof<S>) -> Result<(), Fail> {
+    let p = put(alloc, proof, "p$")?;
+    assert_eq!(rt; sure::refl(alloc, proof, p)?, 1);
     Ok(())
 }

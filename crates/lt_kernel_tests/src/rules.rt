@@ -8,6 +8,7 @@ use lt_hol::{Name, Ty};
 use lt_kernel::{Proof, RuleFault};
 use lt_store::{Id, TermStore};
 use std::alloc::Global;
+use std::process::Abort;
 use std::test::Fail;
 
 /// A line: its rule, the text of its term, and its earlier lines. What the rule doesn't ask for isn't looked at.
@@ -40,9 +41,18 @@ const LINES: [Given<'static>; 20] = [
 #[test]
 fn each_rule_is_called(rt: HostRuntime) -> Result<(), Fail> {
     let mut proof = begun(rt.alloc())?;
-    state(rt.alloc(), &mut proof)?;
-    for given in LINES {
-        derive(rt.alloc(), &mut proof, given)?;
+    derive_all(rt.alloc(), &rt, &mut proof)
+}
+
+/// Adds all lines.
+fn derive_all<S: TermStore>(
+    alloc: Global,
+    rt: &impl Abort,
+    proof: &mut Proof<S>,
+) -> Result<(), Fail> {
+    state(alloc, proof)?;
+    for given in &LINES {
+        derive(alloc, proof, *given)?;
     }
     assert_eq!(rt; proof.steps().len(), 20);
     Ok(())

@@ -4,7 +4,7 @@ ghost use Rattle.lt_nameless.specs.Nameless.{IsWhole};
 ghost use Rattle.lt_nameless.specs.NamelessRules.{nameless_fault};
 ghost use Rattle.lt_store.specs.Trees.{tree_at};
 
-use lt_hol::{Name, Signature, Ty};
+use lt_hol::{Name, Signature, Term, Ty};
 use lt_kernel::Proof;
 use lt_store::{Id, PlainStore, TermStore};
 use lt_tables::{term_with, type_with, variable_name};
@@ -36,7 +36,17 @@ pub fn put<S: TermStore>(alloc: Global, proof: &mut Proof<S>, text: &str) -> Res
     ensures whole { IfOk result (λ t. IsWhole 0 (tree_at proof.new.nodes t)) }
 {
     let term = term_with(alloc, LETTERS, text)?.ok_or("not one term")?;
-    let _ty = proof.signature().type_of(alloc, &term)?;
-    let made = proof.add_term(alloc, &term)?;
+    let made = put_term(alloc, proof, &term)?;
+    Ok(made)
+}
+
+/// The id of a term, which has no fault.
+fn put_term<S: TermStore>(alloc: Global, proof: &mut Proof<S>, term: &Term) -> Result<Id, Fail>
+    ensures within { IfOk result (λ t. t < length proof.new.nodes) }
+    ensures typed { IfOk result (λ t. nameless_fault proof.new.signature (tree_at proof.new.nodes t) ≡ None) }
+    ensures whole { IfOk result (λ t. IsWhole 0 (tree_at proof.new.nodes t)) }
+{
+    let _ty = proof.signature().type_of(alloc, term)?;
+    let made = proof.add_term(alloc, term)?;
     Ok(made)
 }
