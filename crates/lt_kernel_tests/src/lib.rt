@@ -1,15 +1,9 @@
-//! Tests of the kernel and of what stands below it: a derivation whose sequents were written out from the rules by hand, and each reason.
+//! One call, with ample memory, of each public function of lt_kernel, lt_store and lt_tables that may want memory and that no text reaches.
 #![tactic(auto)]
 
 #[cfg(test)]
 mod calls;
 #[cfg(test)]
-mod derivation;
-#[cfg(test)]
-mod lines;
-#[cfg(test)]
-mod reasons;
-#[cfg(test)]
-mod sharing;
+mod rules;
 #[cfg(test)]
 mod terms;
