@@ -11,7 +11,7 @@ ghost use Rattle.lt_run.specs.Places.{AreNames, IsJoinedOfSome};
 
 use crate::files::Joined;
 use crate::places::place_text;
-use crate::words::Text;
+use lt_words::Text;
 use lt_hol::Memory;
 use lt_plain::{Placed, print_refusal};
 use std::alloc::{AllocError, Global};
