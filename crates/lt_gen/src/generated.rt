@@ -2,15 +2,17 @@
 ghost use Rattle.std.specs.Prelude.{◌≡◌, ◌++◌, true, IfOk, OnOk, encode_utf8_all};
 ghost use Rattle.std.specs.List.{flat_map, range_with_len};
 ghost use Rattle.lt_syntax.specs.Signs.{are_ascii};
-ghost use Rattle.lt_transport_definitions.specs.GeneratedTexts.{generated_text, generated_transport, inside_applications};
+ghost use Rattle.lt_transport_definitions.specs.GeneratedTexts.{generated_text};
+ghost use Rattle.lt_transport_definitions.specs.GeneratedTexts.{generated_transport};
+ghost use Rattle.lt_transport_definitions.specs.GeneratedTexts.{inside_applications};
 ghost use Rattle.lt_gen.specs.Repeats.{repeated};
 
 use lt_hol::Memory;
 use lt_syntax::Text;
 use std::alloc::Global;
 
-/// What stands before the transports: the header, the constant of the function relator with the laws
-/// that transports ask for, two types, the constants of each, and three rules.
+/// What stands before the transports: the header, the constant of the function relator with the
+/// laws that transports ask for, two types, the constants of each, and three rules.
 const BASE: &str = "\
 theory 1;\n\
 const rel_fun : (fun (fun 'a (fun 'c bool)) (fun (fun 'b (fun 'd bool)) (fun (fun 'a 'b) \

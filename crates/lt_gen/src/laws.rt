@@ -263,8 +263,8 @@ axiom fun_bi_unique : (all[(fun 'a (fun 'b bool))] (\\x0 (fun 'a (fun 'b bool)) 
 property fun_bi_unique;\n\
 ";
 
-/// The theory text of the definitions and the laws that transports stand on, as axioms, each with its
-/// registration.
+/// The theory text of the definitions and the laws that transports stand on, as axioms, each with
+/// its registration.
 pub fn laws_text(alloc: Global) -> Result<Vec<u8>, Memory>
     ensures { IfOk result (λ bytes. bytes.items ≡ encode_utf8_all laws_text) }
 {

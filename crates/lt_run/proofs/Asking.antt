@@ -93,3 +93,16 @@ module _ (words : List (List ℕ)) (w : Words) (read : option_map asked (Some w)
   pub told_by : {K : List (List ℕ) → Type 0} → (w.mode ≡ Check → K w.files.items) → (names : List (List ℕ)) → AreWords words names → K names
   told_by {K} keeps names a =
       let c = words_check words w read names a in subst K (sym c.1) (keeps c.0)
+
+-- ---- what came of a mode
+
+pub built_apart : {P : Type 0} (m mode : Mode) → mode ≡ m → is_built m ≡ true → is_built mode ≡ false → P
+built_apart m mode same built none = let apart : true ≡ false = sym built ∙ sym (ap is_built same) ∙ none in absurd (cc apart)
+
+pub of_status : {a b : ℕ} → a ≡ b → (a ≡ 4) ⊎ (a ≡ 5) → (b ≡ 4) ⊎ (b ≡ 5)
+of_status e (inl four) = inl (sym e ∙ four)
+of_status e (inr five) = inr (sym e ∙ five)
+
+pub check_front : {N T : Type 0} {mode : Mode} {ns xs : List (List ℕ)} (S : List (List ℕ) → Type 0) → mode ≡ Check → ns ≡ xs → N ⊎ S ns → N ⊎ ((mode ≡ Check) × S xs) ⊎ T
+check_front S mode same (inl n) = inl n
+check_front S mode same (inr s) = inr (inl (mode, subst S same s))

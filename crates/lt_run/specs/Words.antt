@@ -40,7 +40,8 @@ pub record AskForText (words : List (List ℕ)) (text : List ℕ) : Type 0 where
   pub text : IsTextOf call.mode text
 
 -- A text is written whole, without items, and nothing on the second sink.
-abbrev pub IsWritten : {A : Type 0} → List ℕ → List A → (out out' err err' : Option (List ℕ)) → Type 0
+abbrev pub IsWritten : {A : Type 0} → List ℕ → List A
+    → (out out' err err' : Option (List ℕ)) → Type 0
 IsWritten text items out out' err err' = (items ≡ []) × Grew out out' text × Grew err err' []
 
 -- A front of a text is written, without items.

@@ -15,6 +15,6 @@ mod texts;
 mod walk;
 
 pub use ended::Ended;
+pub use lt_words::Text;
 pub use run::lt;
 pub use sure::lt_sure;
-pub use lt_words::Text;

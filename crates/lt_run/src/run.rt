@@ -23,11 +23,11 @@ use std::alloc::Global;
 ///
 /// `check FILE..` reads the files and joins them, checks that they are a plain theory, writes the
 /// summary line of each item to `out` as the item is accepted, and at the end the line of counts.
-/// `laws` writes the text of the laws to `out`, and `gen N` the generated text of size N. The options
-/// `--summary` and `--limit N` may stand with each of them, and say nothing to it. `run` isn't built
-/// yet, and is refused as other words are. The status is 0 where all was accepted and written, 1 where
-/// the text is refused, with a line on `err`, 2 where the words aren't accepted, 3 where a read failed,
-/// 4 where a write failed, and 5 where memory ran out.
+/// `laws` writes the text of the laws to `out`, and `gen N` the generated text of size N. The
+/// options `--summary` and `--limit N` may stand with each of them, and say nothing to it. `run`
+/// isn't built yet, and is refused as other words are. The status is 0 where all was accepted and
+/// written, 1 where the text is refused, with a line on `err`, 2 where the words aren't accepted, 3
+/// where a read failed, 4 where a write failed, and 5 where memory ran out.
 pub fn lt<L: Library, O: Sink, E: Sink>(
     alloc: Global,
     words: &[Text],
@@ -57,7 +57,8 @@ pub fn lt<L: Library, O: Sink, E: Sink>(
         × Grew (E.written err.old) (E.written err.new) (read_fault_line name) }
     ensures write { result.status ≡ 4
         → Rose (O.faults out.old) (O.faults out.new) ⊎ Rose (E.faults err.old) (E.faults err.new) }
-    // Where a write failed or memory ran out, the items and what was written stand as far as they came.
+    // Where a write failed or memory ran out, the items and what was written stand as far as they
+    // came.
     ensures front { (result.status ≡ 4) ⊎ (result.status ≡ 5)
         → ((result.items ≡ []) × Grew (O.written out.old) (O.written out.new) [])
         ⊎ ((names : List (List ℕ)) × AreWords words.now names

@@ -1,6 +1,7 @@
 -- The words of a call that are accepted.
 -- Source: this project's own.
-use Rattle.std.specs.Prelude.{ℕ, Bool, List, [], ◌∷◌, Option, Some, None, true, false, codes, if◌then◌else◌, option_map, option_and_then}
+use Rattle.std.specs.Prelude.{ℕ, Bool, List, [], ◌∷◌, Option, Some, None, true, false, codes}
+use Rattle.std.specs.Prelude.{if◌then◌else◌, option_map, option_and_then}
 use Rattle.std.specs.Str.{bytes_eq}
 use Rattle.lt_words.specs.Command.{Given, given}
 use Rattle.lt_words.specs.Numbers.{number}
@@ -8,8 +9,8 @@ use Rattle.lt_words.specs.declared.mode.Mode.{Mode}
 use Rattle.lt_words.specs.declared.mode.Mode.TheVariants.{Run, Check, Laws, Gen}
 use Rattle.lt_words.specs.declared.read.Words.{Words}
 
--- What the words of a call ask for: what is done, whether the summary alone is wanted of it, the limit
--- of a search, and the files that are read for it.
+-- What the words of a call ask for: what is done, whether the summary alone is wanted of it, the
+-- limit of a search, and the files that are read for it.
 pub record Call : Type 0 where
   pub mode : Mode
   pub summary : Bool
@@ -59,7 +60,12 @@ limit_of None = Some 100000
 limit_of (Some word) = number 8 10000000 word
 
 abbrev pub call_with : Given → Mode → ℕ → Call
-call_with g mode limit = record { mode = mode; summary = g.summary; limit = limit; files = files_of mode g.files }
+call_with g mode limit = record {
+  mode = mode;
+  summary = g.summary;
+  limit = limit;
+  files = files_of mode g.files;
+}
 
 -- the call that is given, where its mode, its files and its numbers are such
 abbrev pub call_given : Given → Option Call

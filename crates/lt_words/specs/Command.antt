@@ -1,9 +1,11 @@
 -- The words as a command of clap, and what it reads of them.
 -- Source: this project's own; what a command reads of words is clap's `fault_of` and `matches_of`.
-use Rattle.std.specs.Prelude.{◌≡◌, ◌∷◌, [], Bool, List, Option, Some, None, true, false, codes, unwrap_or}
+use Rattle.std.specs.Prelude.{◌≡◌, ◌∷◌, [], Bool, List, Option, Some, None, true, false, codes}
+use Rattle.std.specs.Prelude.{unwrap_or}
 use Rattle.std.specs.Option.{option_map_or}
 use Rattle.std.specs.Str.{bytes_eq}
-use Rattle.clap.specs.Words.{App, Kinds, Row, Rule, Text, all_of, fault_of, first_of, matches_of, new_app, new_rule, with_rule}
+use Rattle.clap.specs.Words.{App, Kinds, Row, Rule, Text, all_of, fault_of, first_of, matches_of}
+use Rattle.clap.specs.Words.{new_app, new_rule, with_rule}
 use Rattle.clap.specs.declared.builder.ArgAction.TheVariants.{Append, SetTrue}
 
 -- MODE: a word that has to stand there
@@ -16,7 +18,10 @@ file_rule = record (new_rule (codes "file")) { action = Some Append }
 
 -- --summary
 abbrev pub summary_rule : Rule
-summary_rule = record (new_rule (codes "summary")) { long = Some (codes "summary"); action = Some SetTrue }
+summary_rule = record (new_rule (codes "summary")) {
+  long = Some (codes "summary");
+  action = Some SetTrue;
+}
 
 -- --limit N
 abbrev pub limit_rule : Rule
@@ -24,15 +29,22 @@ limit_rule = record (new_rule (codes "limit")) { long = Some (codes "limit") }
 
 -- without help and version flags; the words don't begin with the program's name
 abbrev pub bare_app : App
-bare_app = let new = new_app (codes "lt") in
-    record new { top = record new.top { no_binary_name = true; disable_help_flag = true; disable_version_flag = true } }
+bare_app = let new = new_app (codes "lt") in record new {
+  top = record new.top {
+    no_binary_name = true;
+    disable_help_flag = true;
+    disable_version_flag = true;
+  };
+}
 
 -- the command line of the program
 abbrev pub lt_app : App
-lt_app = with_rule (with_rule (with_rule (with_rule bare_app mode_rule) file_rule) summary_rule) limit_rule
+lt_app =
+    with_rule (with_rule (with_rule (with_rule bare_app mode_rule) file_rule) summary_rule)
+    limit_rule
 
--- What the command reads of words: the first word that is no option, the others, whether the summary
--- is asked for, and the value of the limit.
+-- What the command reads of words: the first word that is no option, the others, whether the
+-- summary is asked for, and the value of the limit.
 pub record Given : Type 0 where
   pub mode : Option Text
   pub files : List Text

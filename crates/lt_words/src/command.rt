@@ -34,7 +34,8 @@ pub(crate) fn matches_in<'a, S: AsStr>(
     words: &'a [S],
 ) -> Result<ArgMatches<'a>, Error>
     ensures taken { IfOk result (λ m. fault_of lt_app (map S.text words.entry.now) ≡ []) }
-    ensures rows { IfOk result (λ m. rows_of (found_of m) ≡ matches_of lt_app (map S.text words.entry.now)) }
+    ensures rows { IfOk result (λ m. rows_of (found_of m)
+        ≡ matches_of lt_app (map S.text words.entry.now)) }
     ensures refused { IfErr result (λ e. (kind_of e ≡ ErrorKind.OutOfMemory)
         ⊎ (fault_of lt_app (map S.text words.entry.now) ≢ [])) }
 {

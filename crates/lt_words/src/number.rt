@@ -3,7 +3,8 @@ ghost use Rattle.std.specs.Prelude.{◌≡◌};
 ghost use Rattle.std.specs.Str.{all_ascii_digits};
 ghost use Rattle.lt_words.specs.Numbers.{number};
 
-/// The number that a word names: so many decimal digits at most, for a number from 1 to the largest.
+/// The number that a word names: so many decimal digits at most, for a number from 1 to the
+/// largest.
 pub(crate) fn number(word: &str, digits: usize, most: u32) -> Option<u32>
     ensures { result ≡ number digits most word.now }
 {
@@ -26,7 +27,6 @@ pub(crate) fn number(word: &str, digits: usize, most: u32) -> Option<u32>
 }
 
 /// Whether each byte of a word is a decimal digit.
-#[tactic(auto, using(crate::proofs::Digits::digits_more, crate::proofs::Digits::no_digit))]
 fn are_digits(word: &str) -> bool
     ensures { result ≡ all_ascii_digits word.now }
 {

@@ -2,7 +2,8 @@
 ghost use Rattle.std.specs.Prelude.{◌≡◌, ◌↔◌, IsTrue, IfOk, map, option_map};
 ghost use Rattle.clap.specs.Words.{found_of, kind_of, rows_of};
 ghost use Rattle.lt_words.specs.Command.{given_in};
-ghost use Rattle.lt_words.specs.Calls.{asked, call_given, call_of, files_of, limit_of, mode_of, over_files, with_size, without_files};
+ghost use Rattle.lt_words.specs.Calls.{asked, call_given, call_of, files_of, limit_of, mode_of};
+ghost use Rattle.lt_words.specs.Calls.{over_files, with_size, without_files};
 
 use crate::command::matches_in;
 use crate::mode::Mode;
@@ -13,8 +14,8 @@ use clap::{ArgMatches, Error};
 use lt_types::Memory;
 use std::alloc::Global;
 
-/// What the words of a call ask for: what is done, whether the summary alone is wanted of it, the limit
-/// of a search, and the files that are read for it, in order.
+/// What the words of a call ask for: what is done, whether the summary alone is wanted of it, the
+/// limit of a search, and the files that are read for it, in order.
 #[derive(Drop)]
 pub struct Words {
     pub mode: Mode,
@@ -26,8 +27,9 @@ pub struct Words {
 /// Reads the words behind the program's name. `None` says that they aren't accepted.
 ///
 /// `MODE [--summary] [--limit N] FILE..`: `run` and `check` read one FILE or more, `laws` none, and
-/// `gen` has one word in its place, a number of at most 4 decimal digits from 1 to 1,000. N is a number
-/// of at most 8 decimal digits from 1 to 10,000,000, and 100,000 where the option isn't there.
+/// `gen` has one word in its place, a number of at most 4 decimal digits from 1 to 1,000. N is a
+/// number of at most 8 decimal digits from 1 to 10,000,000, and 100,000 where the option isn't
+/// there.
 pub fn read_words(alloc: Global, words: &[Text]) -> Result<Option<Words>, Memory>
     ensures { IfOk result (λ w. option_map asked w ≡ call_of words.now) }
 {
