@@ -19,13 +19,13 @@ module _ (words : List (List ℕ)) (w : Words) (read : option_map asked (Some w)
   files_read m = files_are_there words (asked w) (sym read) (ap reads_files m)
 
   pub asks : is_built w.mode ≡ true → AskFor words (asked w)
-  asks b = record { call = sym read; built = b }
+  asks b = record { accepted = sym read; built = b }
 
   pub are_words : w.mode ≡ Check → AreWords words w.files.items
   are_words m = record { call = asked w; asked = asks (ap is_built m); mode = m; files = refl }
 
   pub ask_text : (text : List ℕ) → IsTextOf w.mode text → AskForText words text
-  ask_text text t = record { call = asked w; asked = asks (writes w.mode text t); text = t }
+  ask_text text t = record { call = asked w; asked = asks (writes w.mode text t); gives = t }
     where
       writes : (m : Mode) (text : List ℕ) → IsTextOf m text → is_built m ≡ true
       writes Run text t = absurd t
@@ -34,25 +34,25 @@ module _ (words : List (List ℕ)) (w : Words) (read : option_map asked (Some w)
       writes (Gen n) text t = refl
 
   pub asks_call : (call : Call) → AskFor words call → is_built w.mode ≡ true
-  asks_call call a = let same = one_call words (asked w) call (sym read) a.call in subst (λ (c : Call). is_built c.mode ≡ true) (sym same) a.built
+  asks_call call a = let same = one_call words (asked w) call (sym read) a.accepted in subst (λ (c : Call). is_built c.mode ≡ true) (sym same) a.built
 
   pub words_check : (names : List (List ℕ)) → AreWords words names → (w.mode ≡ Check) × (names ≡ w.files.items)
   words_check names a =
-      let same = one_call words a.call (asked w) a.asked.call (sym read) in
+      let same = one_call words a.call (asked w) a.asked.accepted (sym read) in
       (sym (ap (λ (c : Call). c.mode) same) ∙ a.mode, sym a.files ∙ ap (λ (c : Call). c.files) same)
 
 -- ---- they weren't
 
 pub ask_for_nothing : (words : List (List ℕ)) → None ≡ call_of words → (call : Call) → AskFor words call → ⊥
-ask_for_nothing words none call a = let apart : None ≡ Some call = none ∙ a.call in cc apart
+ask_for_nothing words none call a = let apart : None ≡ Some call = none ∙ a.accepted in cc apart
 
 -- ---- over what never fails
 
 -- the words of `check` ask for no text
 pub check_writes_none : (words names : List (List ℕ)) (text : List ℕ) → AreWords words names → AskForText words text → ⊥
 check_writes_none words names text a t =
-    let same = one_call words t.call a.call t.asked.call a.asked.call in
-    none t.call.mode text (ap (λ (c : Call). c.mode) same ∙ a.mode) t.text
+    let same = one_call words t.call a.call t.asked.accepted a.asked.accepted in
+    none t.call.mode text (ap (λ (c : Call). c.mode) same ∙ a.mode) t.gives
   where
     none : (m : Mode) (text : List ℕ) → m ≡ Check → IsTextOf m text → ⊥
     none Run text e t = t
@@ -62,7 +62,7 @@ check_writes_none words names text a t =
 
 pub one_list_of_files : (words names others : List (List ℕ)) → AreWords words names → AreWords words others → names ≡ others
 one_list_of_files words names others a b =
-    let same = one_call words a.call b.call a.asked.call b.asked.call in sym a.files ∙ ap (λ (c : Call). c.files) same ∙ b.files
+    let same = one_call words a.call b.call a.asked.accepted b.asked.accepted in sym a.files ∙ ap (λ (c : Call). c.files) same ∙ b.files
 
 -- ---- what came of the call, by its words
 
@@ -75,7 +75,7 @@ module _ (words : List (List ℕ)) (w : Words) (read : option_map asked (Some w)
   pub stopped_by : {N : Type 0} {C : List (List ℕ) → Type 0} {P : List ℕ → Type 0} → N ⊎ ((w.mode ≡ Check) × C w.files.items) ⊎ ((text : List ℕ) × IsTextOf w.mode text × P text)
       → N ⊎ ((names : List (List ℕ)) × AreWords words names × C names) ⊎ ((text : List ℕ) × AskForText words text × P text)
   stopped_by (inl n) = inl n
-  stopped_by {N} {C} {P} (inr r) = inr (accepted_by {C} {P} r)
+  stopped_by {N = N} {C = C} {P = P} (inr r) = inr (accepted_by {C = C} {P = P} r)
 
   pub unbuilt : is_built w.mode ≡ false → (call : Call) → AskFor words call → ⊥
   unbuilt none call a = let apart : false ≡ true = sym none ∙ asks_call words w read call a in cc apart
@@ -90,8 +90,8 @@ module _ (words : List (List ℕ)) (w : Words) (read : option_map asked (Some w)
   pub no_check : ((names : List (List ℕ)) → AreWords words names → ⊥) → w.mode ≢ Check
   no_check none m = none w.files.items (are_words words w read m)
 
-  pub told_by : {K : List (List ℕ) → Type 0} → (w.mode ≡ Check → K w.files.items) → (names : List (List ℕ)) → AreWords words names → K names
-  told_by {K} keeps names a =
+  pub told_by : (K : List (List ℕ) → Type 0) → (w.mode ≡ Check → K w.files.items) → (names : List (List ℕ)) → AreWords words names → K names
+  told_by K keeps names a =
       let c = words_check words w read names a in subst K (sym c.1) (keeps c.0)
 
 -- ---- what came of a mode

@@ -154,7 +154,7 @@ one_end : (files now : Option Files) (words : List (List ℕ)) (names others : L
     → AreWords words others → CheckEnds now others found last out out' err err' → (found ≡ items) × (last ≡ end)
 unfolding CheckEnds
 one_end files now words names others held items found end last out out' err err' same told are has walk are' (read, r, w, v, p, q) =
-    let named : others ≡ names = same-words words others names are' are in
+    let named : others ≡ names = one_list_of_files words others names are' are in
     by (one_read files now names held read same (told names are) has (subst (λ (z : List (List ℕ)). AreRead now z read) named r))
   where
     by : (read ≡ held) ⊎ ((plain_limit < length (joined_text read)) × (plain_limit < length (joined_text held))) → (found ≡ items) × (last ≡ end)
@@ -173,7 +173,7 @@ pub accepts_valid : {P : List ℕ → Type 0} (status : ℕ) (files now : Option
     → (status ≡ 1 → (ns : List (List ℕ)) × (end : End Refusal) × AreWords words ns × (end ≢ accepted) × CheckEnds now ns found end out out' err err')
     → (status ≡ 2 → (call : Call) → AskFor words call → ⊥)
     → ((status ≡ 0) × (found ≡ items)) ⊎ (status ≡ 5)
-accepts_valid status files now words names held items found out out' err err' same told are has walk (inl zero') good bad other = by (good zero')
+accepts_valid {P = P} status files now words names held items found out out' err err' same told are has walk (inl zero') good bad other = by (good zero')
   where
     by : ((ns : List (List ℕ)) × AreWords words ns × CheckEnds now ns found accepted out out' err err') ⊎ ((text : List ℕ) × AskForText words text × P text)
         → ((status ≡ 0) × (found ≡ items)) ⊎ (status ≡ 5)
@@ -194,7 +194,7 @@ pub refuses_wrong : {P : List ℕ → Type 0} (status : ℕ) (files now : Option
     → (status ≡ 1 → (ns : List (List ℕ)) × (last : End Refusal) × AreWords words ns × (last ≢ accepted) × CheckEnds now ns found last out out' err err')
     → (status ≡ 2 → (call : Call) → AskFor words call → ⊥)
     → ((status ≡ 1) × (found ≡ items)) ⊎ (status ≡ 5)
-refuses_wrong status files now words names held items found end out out' err err' same told are has walk wrong (inl zero') good bad other = by (good zero')
+refuses_wrong {P = P} status files now words names held items found end out out' err err' same told are has walk wrong (inl zero') good bad other = by (good zero')
   where
     by : ((ns : List (List ℕ)) × AreWords words ns × CheckEnds now ns found accepted out out' err err') ⊎ ((text : List ℕ) × AskForText words text × P text)
         → ((status ≡ 1) × (found ≡ items)) ⊎ (status ≡ 5)
@@ -210,8 +210,8 @@ refuses_wrong status files now words names held items found end out out' err err
 pub two_alone : (status : ℕ) → (status ≡ 2) ⊎ (status ≡ 4) ⊎ (status ≡ 5) → (status ≡ 0) ⊎ (status ≡ 1) ⊎ (status ≡ 2) ⊎ (status ≡ 5) → (status ≡ 2) ⊎ (status ≡ 5)
 two_alone status (inl two) known = inl two
 two_alone status (inr (inr five)) known = inr five
-two_alone status (inr (inl four)) (inl nought) = omega (arith, four, nought)
-two_alone status (inr (inl four)) (inr (inl one)) = omega (arith, four, one)
+two_alone status (inr (inl four)) (inl nought) = absurd (omega (arith, four, nought))
+two_alone status (inr (inl four)) (inr (inl one)) = absurd (omega (arith, four, one))
 two_alone status (inr (inl four)) (inr (inr (inl two))) = inl two
 two_alone status (inr (inl four)) (inr (inr (inr five))) = inr five
 

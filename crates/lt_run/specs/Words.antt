@@ -23,7 +23,7 @@ IsTextOf (Gen n) text = text ≡ encode_utf8_all (generated_text n)
 
 -- The words are accepted, and ask for this, which the program does.
 pub record AskFor (words : List (List ℕ)) (call : Call) : Type 0 where
-  pub call : call_of words ≡ Some call
+  pub accepted : call_of words ≡ Some call
   pub built : is_built call.mode ≡ true
 
 -- The words ask for `check` over the files with these names.
@@ -37,7 +37,7 @@ pub record AreWords (words names : List (List ℕ)) : Type 0 where
 pub record AskForText (words : List (List ℕ)) (text : List ℕ) : Type 0 where
   pub call : Call
   pub asked : AskFor words call
-  pub text : IsTextOf call.mode text
+  pub gives : IsTextOf call.mode text
 
 -- A text is written whole, without items, and nothing on the second sink.
 abbrev pub IsWritten : {A : Type 0} → List ℕ → List A
