@@ -24,8 +24,7 @@ returns-in-Check-clause-accepted g c = λ zero.
 pub returns-in-Check-clause-refused : goal.returns-in-Check-clause-refused
 returns-in-Check-clause-refused g c = λ one.
     let mode : c.args.words.now.mode ≡ Check = search rules in
-    let said = c.check_files.ensures.refused one in
-    (
+    let said = c.check_files.ensures.refused one in (
       said.0,
       mode,
       said.1,
