@@ -1,12 +1,12 @@
 -- What the getters of clap's matches tell, by its rows.
-use Rattle.std.proofs.Common.{◌≡◌, ◌≢◌, List, ℕ, [], ◌∷◌, map, Bool, true, false, refl, sym, ◌∙◌, ap, codes}
+use Rattle.std.proofs.Common.{◌≡◌, ◌≢◌, List, [], ◌∷◌, map, Bool, false, refl, sym, ◌∙◌, ap, codes}
 use Rattle.std.specs.Prelude.{Option, Some, None, option_and_then, unwrap_or}
 use Rattle.std.proofs.lemmas.List.{map-id}
 use Rattle.std.specs.Option.{option_map_or}
 use Rattle.std.specs.Str.{bytes_eq}
 use Rattle.clap.specs.Words.{Kinds, Row, Text, all_of, fault_of, first_of, matches_of}
 use Rattle.lt_words.specs.Command.{given, given_in, given_without, lt_app}
-use Rattle.lt_words.specs.Calls.{Call, call_given, call_of}
+use Rattle.lt_words.specs.Calls.{call_given, call_of}
 
 -- whether a text that is given is `true`
 pub given_true : (r x : Option Text) (t : Text) (b : Bool) → r ≡ Some t → r ≡ x → b ≡ bytes_eq t (codes "true") → b ≡ option_map_or (λ t. bytes_eq t (codes "true")) x false

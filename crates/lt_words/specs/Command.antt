@@ -1,6 +1,6 @@
 -- The words as a command of clap, and what it reads of them.
 -- Source: this project's own; what a command reads of words is clap's `fault_of` and `matches_of`.
-use Rattle.std.specs.Prelude.{◌≡◌, ◌∷◌, [], Bool, List, Option, Some, None, true, false, codes}
+use Rattle.std.specs.Prelude.{◌∷◌, [], Bool, List, Option, Some, None, true, false, codes}
 use Rattle.std.specs.Prelude.{unwrap_or}
 use Rattle.std.specs.Option.{option_map_or}
 use Rattle.std.specs.Str.{bytes_eq}

@@ -1,5 +1,5 @@
 -- The text is written out; it is computed that the definition's is that.
-use Rattle.std.proofs.Common.{◌≡◌, List, ℕ, ◌∙◌, ap}
+use Rattle.std.proofs.Common.{◌≡◌, ◌∙◌, ap}
 use Rattle.std.specs.Prelude.{encode_utf8_all}
 use Rattle.std.specs.Fmt.{digits}
 use Rattle.lt_transport_definitions.specs.LawTexts.{laws_text}

@@ -1,8 +1,8 @@
-use Rattle.std.proofs.Common.{rules, ap, ap₂, refl, codes, true, ◌≡◌, ◌∙◌}
+use Rattle.std.proofs.Common.{rules, ap, ap₂, true, ◌≡◌, ◌∙◌}
 use Rattle.std.proofs.lemmas.Result.{IfOk-weaker}
 use Rattle.clap.specs.Simple.{app_of_fields, on_top}
-use Rattle.clap.specs.Words.{App, Rule, app_of, new_app, rule_of, with_rule}
-use Rattle.lt_words.specs.Command.{lt_app, bare_app, mode_rule, file_rule, summary_rule, limit_rule}
+use Rattle.clap.specs.Words.{app_of, rule_of, with_rule}
+use Rattle.lt_words.specs.Command.{bare_app, mode_rule, file_rule, summary_rule, limit_rule}
 use Rattle.lt_words.proofs.command.lt_command.Goals as goal
 
 pub returns : goal.returns

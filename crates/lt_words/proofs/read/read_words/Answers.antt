@@ -1,4 +1,4 @@
-use Rattle.std.proofs.Common.{rules, ◌≡◌, ◌≢◌, ◌∙◌, [], map}
+use Rattle.std.proofs.Common.{rules, ◌≢◌, ◌∙◌, [], map}
 use Rattle.clap.specs.Words.{fault_of}
 use Rattle.lt_words.specs.Command.{lt_app}
 use Rattle.lt_words.proofs.WordTests.{taken, not_taken}

@@ -1,6 +1,6 @@
 use Rattle.std.proofs.Common.{rules, ◌≡◌, ◌∙◌, codes}
 use Rattle.std.specs.Prelude.{Some, None, option_map}
-use Rattle.clap.specs.Words.{found_of, rows_of}
+use Rattle.clap.specs.Words.{found_of}
 use Rattle.clap.proofs.WalkLemmas.{first_value-rows}
 use Rattle.lt_words.proofs.WordTests.{given_true, none_true}
 use Rattle.lt_words.proofs.read.wants_summary.Goals as goal

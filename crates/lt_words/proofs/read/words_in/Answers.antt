@@ -1,4 +1,4 @@
-use Rattle.std.proofs.Common.{rules, ◌≡◌, ◌∙◌, sym, codes, map}
+use Rattle.std.proofs.Common.{rules, ◌≡◌, ◌∙◌, codes, map}
 use Rattle.std.specs.Prelude.{Some, None, option_map}
 use Rattle.clap.specs.Words.{found_of, rows_of}
 use Rattle.clap.proofs.WalkLemmas.{first_value-rows, raw_values-rows}
