@@ -1,6 +1,8 @@
+use Rattle.std.proofs.Common.{arith}
+use Rattle.lt_store.specs.Trees.{tree_at}
 use Rattle.lt_conv.specs.Conversions.{node_length}
 use Rattle.lt_store.specs.Views.{node_of}
-use Rattle.lt_conv.proofs.NodeTotals.{turn-taken, turn-smaller, turn-below, still-short, at-most-left, at-most-right}
+use Rattle.lt_conv.proofs.NodeTotals.{turn-taken, turn-smaller, turn-below, still-short, at-most-left, at-most-right, longest-short}
 use Rattle.lt_conv.proofs.opening.longest.Goals as goal
 
 pub view-view-requires : goal.view-view-requires
@@ -16,3 +18,6 @@ loop-id-preserved g c = record {
       (still-short n (g.S.TermStore.nodes c.args.store.now) c.loop-id.todo.items c.pop.new.self.items c.push_children.new.todo.items c.in-Some.id (node_of c.view-view.result) c.in-Some.ensures.items c.in_ok-push_children.ensures c.view-view.ensures.stands
       (at-most-right c.loop-id.longest c.name_length.result (node_length (node_of c.view-view.result)) c.max-longest.result n c.max-longest.ensures c.name_length.ensures h) k);
 }
+
+pub returns-in-Some : goal.returns-in-Some
+returns-in-Some g c = let e = c.in-Some.ensures.names in longest-short c.in-Some.known.names (tree_at (g.S.TermStore.nodes c.args.store.now) c.args.t) (omega (arith, e))

@@ -1,0 +1,19 @@
+use Rattle.std.proofs.Common.{◌∷◌, reverse}
+use Rattle.lt_conv.specs.declared.places.Level.TheVariants.{Function, Argument, Body}
+use Rattle.lt_conv.proofs.Placed.{level-taken, with_levels}
+use Rattle.lt_conv.proofs.everywhere.leave.Goals as goal
+
+pub returns-in_ok-place-in-Some-Function-clause-leads : goal.returns-in_ok-place-in-Some-Function-clause-leads
+returns-in_ok-place-in-Some-Function-clause-leads g c = λ q.
+    c.in_ok-place-in-Some-Function.ensures.leads (with_levels (Function c.in-Some-Function.id ∷ reverse c.pop.new.self.items)
+    (level-taken c.pop.new.self.items c.args.work.now.levels.items c.in-Some-Function.field-0 (Function c.in-Some-Function.id) c.in-Some-Function.ensures.items c.in-Some-Function.field-0-is) q)
+
+pub returns-in_ok-place-in-Some-Argument-clause-leads : goal.returns-in_ok-place-in-Some-Argument-clause-leads
+returns-in_ok-place-in-Some-Argument-clause-leads g c = λ q.
+    c.in_ok-place-in-Some-Argument.ensures.leads (with_levels (Argument c.in-Some-Argument.id c.in-Some-Argument.head ∷ reverse c.pop.new.self.items)
+    (level-taken c.pop.new.self.items c.args.work.now.levels.items c.in-Some-Argument.field-0 (Argument c.in-Some-Argument.id c.in-Some-Argument.head) c.in-Some-Argument.ensures.items c.in-Some-Argument.field-0-is) q)
+
+pub returns-in_ok-place-in-Some-Body-clause-leads : goal.returns-in_ok-place-in-Some-Body-clause-leads
+returns-in_ok-place-in-Some-Body-clause-leads g c = λ q.
+    c.in_ok-place-in-Some-Body.ensures.leads (with_levels (Body c.in-Some-Body.id c.in-Some-Body.x c.in-Some-Body.ty ∷ reverse c.pop.new.self.items)
+    (level-taken c.pop.new.self.items c.args.work.now.levels.items c.in-Some-Body.field-0 (Body c.in-Some-Body.id c.in-Some-Body.x c.in-Some-Body.ty) c.in-Some-Body.ensures.items c.in-Some-Body.field-0-is) q)
