@@ -35,6 +35,9 @@ level-pushed items new l e = ap reverse e ∙ reverse-append items (l ∷ [])
 pub level-taken : (items new : List Level) (l k : Level) → new ≡ items ++ l ∷ [] → l ≡ k → reverse new ≡ k ∷ reverse items
 level-taken items new l k e d = level-pushed items new l e ∙ ap (λ j. j ∷ reverse items) d
 
+pub less-of : (ns : List Node) (ls ks : List Level) (p : Place) (m : ℕ) → ls ≡ ks → m < moves_left ns ks p → m < moves_left ns ls p
+less-of ns ls ks p m e h = subst (λ (js : List Level). m < moves_left ns js p) (sym e) h
+
 -- ---- what stays
 
 module _ (f : Nameless → Option Nameless) (s now : State) (c : Carries s now) where

@@ -2,6 +2,12 @@ use Rattle.lt_conv.specs.Places.{levels_of}
 use Rattle.lt_conv.proofs.Placed.{line-found, node-typed, node-inside, made-less}
 use Rattle.lt_conv.proofs.everywhere.enter_leaf.Goals as goal
 
+pub settle_leaf-requires-clause-typed : goal.settle_leaf-requires-clause-typed
+settle_leaf-requires-clause-typed g c = node-typed (g.A.Conversion.gives c.args.inner.now) c.args.proof.now (levels_of c.args.work.now) c.args.work.now.lines c.args.id c.requires.at
+
+pub settle_leaf-requires-clause-sound : goal.settle_leaf-requires-clause-sound
+settle_leaf-requires-clause-sound g c = c.requires.at.sound
+
 pub returns-clause-leads : goal.returns-clause-leads
 returns-clause-leads g c = λ q.
     let gives = g.A.Conversion.gives c.args.inner.now in

@@ -2,6 +2,12 @@ use Rattle.lt_conv.specs.Places.{levels_of}
 use Rattle.lt_conv.proofs.Placed.{both-parts, application-leads, application-less}
 use Rattle.lt_conv.proofs.everywhere.leave_argument.Goals as goal
 
+pub settle_application-requires-clause-parts : goal.settle_application-requires-clause-parts
+settle_application-requires-clause-parts g c = both-parts (g.A.Conversion.gives c.args.inner.now) c.args.proof.now (levels_of c.args.work.now) c.args.work.now.lines c.args.id c.args.head c.args.line c.requires
+
+pub settle_application-requires-clause-sound : goal.settle_application-requires-clause-sound
+settle_application-requires-clause-sound g c = c.requires.sound
+
 pub returns-clause-leads : goal.returns-clause-leads
 returns-clause-leads g c = λ q.
     let gives = g.A.Conversion.gives c.args.inner.now in

@@ -2,6 +2,12 @@ use Rattle.lt_conv.specs.Places.{levels_of}
 use Rattle.lt_conv.proofs.Placed.{the-body, abstraction-leads, abstraction-less}
 use Rattle.lt_conv.proofs.everywhere.leave_body.Goals as goal
 
+pub settle_abstraction-requires-clause-body : goal.settle_abstraction-requires-clause-body
+settle_abstraction-requires-clause-body g c = the-body (g.A.Conversion.gives c.args.inner.now) c.args.proof.now (levels_of c.args.work.now) c.args.work.now.lines c.args.id c.args.x.now c.args.ty.now c.args.line c.requires
+
+pub settle_abstraction-requires-clause-sound : goal.settle_abstraction-requires-clause-sound
+settle_abstraction-requires-clause-sound g c = c.requires.sound
+
 pub returns-clause-leads : goal.returns-clause-leads
 returns-clause-leads g c = λ q.
     let gives = g.A.Conversion.gives c.args.inner.now in

@@ -1,7 +1,10 @@
-use Rattle.std.proofs.Common.{◌∙◌}
+use Rattle.std.proofs.Common.{◌∙◌, arith}
 use Rattle.lt_nameless.specs.Nameless.{nameless_free}
 use Rattle.lt_conv.proofs.Settled.{opened-body, opened-typed}
 use Rattle.lt_conv.proofs.settling.open.Goals as goal
+
+pub instantiate-requires-clause-body : goal.instantiate-requires-clause-body
+instantiate-requires-clause-body g c = let w = c.in_ok-ty.ensures.within in let l = c.mk_free.ensures.kept.grows in omega (arith, w, l)
 
 pub returns-in_err-opened-clause-carries : goal.returns-in_err-opened-clause-carries
 returns-in_err-opened-clause-carries g c = λ first h. c.instantiate.ensures.carries first (c.mk_free.ensures.carries first h)

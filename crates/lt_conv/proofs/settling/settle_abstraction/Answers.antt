@@ -1,6 +1,12 @@
 use Rattle.lt_conv.proofs.Converting.{still-sound}
-use Rattle.lt_conv.proofs.Settled.{still-named, closed-equation, body-settled}
+use Rattle.lt_conv.proofs.Settled.{still-named, body-type, body-equation, closed-equation, body-settled}
 use Rattle.lt_conv.proofs.settling.settle_abstraction.Goals as goal
+
+pub abs-requires-clause-ty : goal.abs-requires-clause-ty
+abs-requires-clause-ty g c = let q = c.requires.body in body-type c.args.proof.now c.args.id c.args.x.now c.args.ty.now q.t q.body
+
+pub abs-requires-clause-line : goal.abs-requires-clause-line
+abs-requires-clause-line g c = body-equation c.requires.body
 
 pub settle-requires-clause-line : goal.settle-requires-clause-line
 settle-requires-clause-line g c = closed-equation c.requires.body c.abs.new.proof c.in_ok-closed.closed c.in_ok-closed.ensures.line

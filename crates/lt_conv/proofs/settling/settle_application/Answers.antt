@@ -1,6 +1,9 @@
 use Rattle.lt_conv.proofs.Converting.{still-sound}
-use Rattle.lt_conv.proofs.Settled.{still-named, parts-equation, parts-settled}
+use Rattle.lt_conv.proofs.Settled.{still-named, parts-apply, parts-equation, parts-settled}
 use Rattle.lt_conv.proofs.settling.settle_application.Goals as goal
+
+pub cong-requires : goal.cong-requires
+cong-requires g c = parts-apply c.requires.parts
 
 pub settle-requires-clause-line : goal.settle-requires-clause-line
 settle-requires-clause-line g c = parts-equation c.requires.parts c.cong.new.proof c.in_ok-both.both c.in_ok-both.ensures.line
