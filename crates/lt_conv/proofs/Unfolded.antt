@@ -1,5 +1,5 @@
 -- Constants unfolded by named equations.
-use Rattle.std.proofs.Common.{◌≡◌, ℕ, List, [], ◌∷◌, length, map, codes, Bool, true, false, if◌then◌else◌, nat_eq, Ok, Err, Option, Some, None, refl, sym, ◌∙◌, ap, subst}
+use Rattle.std.proofs.Common.{◌≡◌, ℕ, ◌<◌, List, [], ◌∷◌, length, map, codes, is_some, Bool, true, false, if◌then◌else◌, nat_eq, Ok, Err, Option, Some, None, refl, sym, ◌∙◌, ap, subst}
 use Rattle.std.specs.Option.{option_map}
 use Rattle.std.proofs.lemmas.Bool.{cond-true, cond-false}
 use Rattle.std.proofs.lemmas.Option.{same_Some}
@@ -17,7 +17,10 @@ use Rattle.lt_nameless.specs.NamelessRules.{NamelessOutcome, nameless_typed, nam
 use Rattle.lt_kernel.specs.declared.rule_fault.RuleFault.{RuleFault}
 use Rattle.lt_kernel.specs.declared.rule_fault.RuleFault.TheVariants.{Bad, Duplicate, Memory}
 use Rattle.lt_kernel.specs.State.{State, sequents, statements}
-use Rattle.lt_kernel.specs.Growing.{IsSound}
+use Rattle.lt_kernel.specs.Growing.{IsSound, Carries}
+use Rattle.lt_kernel.proofs.GrowingLemmas.{carries-grows}
+use Rattle.lt_store.specs.Trees.{tree_at}
+use Rattle.lt_store.proofs.TreeLemmas.{tree_at-extends}
 use Rattle.lt_kernel.specs.Reaching.{IsGiven, Reaches}
 use Rattle.lt_kernel.proofs.ReachingLemmas.{reached-line, reached-memory}
 use Rattle.lt_programs.specs.Programs.{theorem, statement_at, named_at}
@@ -123,6 +126,39 @@ module _ (sig : Signature) (o : Option Nameless) (t p : Nameless) (is : o ≡ So
     instance-types None typed k = no-instance k
     instance-types (Some m) typed k = an-instance m typed k
 
+-- ---- from the line of the statement
+
+pub mapped-none : {A B : Type 0} {f : A → B} {o : Option A} {p : Option B} → option_map f o ≡ p → o ≡ None → p ≡ None
+mapped-none {f = f} h e = sym h ∙ ap (option_map f) e
+
+pub mapped-some : {A B : Type 0} {f : A → B} {o : Option A} {p : Option B} (x : A) → option_map f o ≡ p → o ≡ Some x → p ≡ Some (f x)
+mapped-some {f = f} x h e = sym h ∙ ap (option_map f) e
+
+module _ (s : State) (o : Option Nameless) (l : Option ℕ) (h : IsStated s o l) (sig : Signature) (t : Nameless) where
+  pub none-stated : l ≡ None → AreTypesOf sig o t None
+  none-stated e = no-statement sig s o t (subst (IsStated s o) e h)
+
+  module _ (n : ℕ) (there : l ≡ Some n) where
+    statement : (p : Nameless) × (o ≡ Some p) × (line_at (sequents s) n ≡ Some (theorem p))
+    statement = the-statement s o n (subst (IsStated s o) there h)
+
+    pub stated-there : is_some (line_at (sequents s) n) ≡ true
+    stated-there = ap is_some statement.2
+
+    module _ (q : Nameless) (concl : option_map (λ v. v.concl) (line_at (sequents s) n) ≡ Some q) where
+      form : (e : Option (TypeTree × Nameless × Nameless)) → nameless_as_equation q ≡ e → nameless_as_equation statement.0 ≡ e
+      form e k = ap nameless_as_equation (sym (concl-statement s n statement.0 q statement.2 concl)) ∙ k
+
+      pub stated-unequal : nameless_as_equation q ≡ None → AreTypesOf sig o t None
+      stated-unequal k = no-equation sig o t statement.0 statement.1 (form None k)
+
+      pub stated-types : (e : TypeTree × Nameless × Nameless) → nameless_as_equation q ≡ Some e → (m : Option TypeMap) → nameless_fault sig t ≡ None → FitsBy e.1 t m → AreTypesOf sig o t m
+      stated-types e k m typed f = instance-types sig o t statement.0 statement.1 e (form (Some e) k) m typed f
+
+-- an id that stood for the same before
+pub fits-before : (old new : State) (id : ℕ) (l : Nameless) (m : Option TypeMap) → Carries old new → id < length old.nodes → FitsBy l (tree_at new.nodes id) m → FitsBy l (tree_at old.nodes id) m
+fits-before old new id l m c w h = let g = carries-grows old new c in subst (λ (u : Nameless). FitsBy l u m) (tree_at-extends old.nodes new.nodes id g.stays.nodes w) h
+
 -- ---- a line that equates the term
 
 built-type : (sig : Signature) → IsPartOf built_in sig → (c : Chars) (d : TypeTree) (ts : List TypeTree) (ty : TypeTree)
@@ -161,3 +197,28 @@ module _ (sig : Signature) (named : List (Chars × Nameless)) (label : Chars) (t
   instance-converts s n sound h =
       subst (λ (o : Option Nameless). Converts s t o (Some n)) (sym q.gives)
       (line-equates s n q.ty t q.to sound (reached-line s n (named_at sig named label m []) (theorem (nameless_equation q.ty t q.to)) h instance-is))
+
+-- ---- the whole conversion
+
+pub not-unfolded : (sig : Signature) (s : State) (o : Option Nameless) (t : Nameless) (l : Option TypeMap) → AreTypesOf sig o t l → l ≡ None → Converts s t (unfolded o t) None
+not-unfolded sig s o t l h e =
+    let none : unfolded o t ≡ None = subst (AreTypesOf sig o t) e h in
+    subst (λ (r : Option Nameless). Converts s t r None) (sym none) tt
+
+module _ (old mid : State) (label : Chars) (t : Nameless) (l : Option TypeMap) (m : TypeMap) (c : Carries old mid) (h : AreTypesOf old.signature (found label (statements old)) t l) (e : l ≡ Some m) where
+  types-then : IsUnfoldedBy mid.signature (found label (statements mid)) t m
+  types-then = let g = carries-grows old mid c in
+      subst (λ (sig : Signature). IsUnfoldedBy sig (found label (statements mid)) t m) (sym g.stays.signature)
+      (subst (λ (named : List (Chars × Nameless)). IsUnfoldedBy old.signature (found label named) t m) (sym g.stays.statements)
+      (subst (AreTypesOf old.signature (found label (statements old)) t) e h))
+
+  pub types-clear : types_fault mid.signature (row (map (λ p. p.1) m)) ≡ None
+  types-clear = types-then.sound
+
+  pub unfold-memory : (s : State) (f : RuleFault) → Reaches s (Err f) (named_at mid.signature (statements mid) label m []) → f ≡ Memory
+  unfold-memory s f r = instance-memory mid.signature (statements mid) label t m types-then s f r
+
+  pub unfold-converts : (s : State) (n : ℕ) → IsSound s → IsGiven s n (named_at mid.signature (statements mid) label m []) → Converts s t (unfolded (found label (statements old)) t) (Some n)
+  unfold-converts s n sound r = let g = carries-grows old mid c in
+      subst (λ (named : List (Chars × Nameless)). Converts s t (unfolded (found label named) t) (Some n)) g.stays.statements
+      (instance-converts mid.signature (statements mid) label t m types-then s n sound r)

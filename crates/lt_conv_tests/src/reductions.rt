@@ -1,7 +1,9 @@
 //! Normal forms, and the limits on the way.
 use crate::terms::{doubling, empty, implies, is_right, over_x, put, tower_of_p, towers, variable};
-use lt_conv::{ConvFault, normal_form};
+use lt_conv::{Beta, ConvFault, Conversion, Everywhere, normal_form};
+use lt_derived::equations::right;
 use lt_hol::Term;
+use lt_shared::SharedStore;
 use lt_store::{PlainStore, TermStore};
 use std::alloc::Global;
 use std::process::Abort;
@@ -18,14 +20,35 @@ fn reduces(alloc: Global, term: &Term, to: &Term) -> Result<bool, Fail> {
 }
 
 /// The step at which a limit is passed; None where none is.
+fn step_of(ended: Result<usize, ConvFault>) -> Option<usize> {
+    match ended {
+        Ok(_) => None,
+        Err(ConvFault::NormLimit(step)) => Some(step),
+        Err(ConvFault::Memory) => Some(77_777),
+    }
+}
+
+/// That step for a term.
 fn limit<S: TermStore>(alloc: Global, store: S, term: &Term) -> Result<Option<usize>, Fail> {
     let mut proof = empty(alloc, store)?;
     let t = put(alloc, &mut proof, term)?;
-    match normal_form(alloc, &mut proof, t) {
-        Ok(_) => Ok(None),
-        Err(ConvFault::NormLimit(step)) => Ok(Some(step)),
-        Err(ConvFault::Memory) => Ok(Some(77_777)),
-    }
+    Ok(step_of(normal_form(alloc, &mut proof, t)))
+}
+
+/// That step for what a conversion gives for a term; None where nothing is given.
+fn limit_behind<C: Conversion, S: TermStore>(
+    alloc: Global,
+    store: S,
+    conversion: &C,
+    term: &Term,
+) -> Result<Option<usize>, Fail> {
+    let mut proof = empty(alloc, store)?;
+    let t = put(alloc, &mut proof, term)?;
+    let Some(line) = conversion.convert(alloc, &mut proof, t)? else {
+        return Ok(None);
+    };
+    let made = right(&proof, line);
+    Ok(step_of(normal_form(alloc, &mut proof, made)))
 }
 
 #[test]
@@ -59,7 +82,7 @@ const HEIGHTS: [usize; 7] = [1, 2, 4, 8, 9, 10, 13];
 fn ten_thousand_steps_are_within_the_limit(rt: HostRuntime) -> Result<(), Fail> {
     let alloc = rt.alloc();
     let term = towers(alloc, &HEIGHTS)?;
-    let none = limit(alloc, PlainStore::new(alloc), &term)?;
+    let none = limit(alloc, SharedStore::new(alloc), &term)?;
     assert!(rt; none.is_none());
     Ok(())
 }
@@ -79,5 +102,16 @@ fn too_many_nodes_pass_it(rt: HostRuntime) -> Result<(), Fail> {
     let alloc = rt.alloc();
     let large = limit(alloc, PlainStore::new(alloc), &tower_of_p(alloc, 15)?)?;
     assert!(rt; large.is_some());
+    Ok(())
+}
+
+/// As a tree, what `Everywhere` gives here has more than 2^60 nodes.
+#[test]
+fn a_term_that_shares_is_refused_at_once(rt: HostRuntime) -> Result<(), Fail> {
+    let alloc = rt.alloc();
+    let everywhere = Everywhere { inner: Beta };
+    let term = tower_of_p(alloc, 60)?;
+    let at_once = limit_behind(alloc, SharedStore::new(alloc), &everywhere, &term)?;
+    assert_eq!(rt; at_once, Some(0));
     Ok(())
 }
