@@ -258,9 +258,16 @@ fn convert_everywhere<A: Conversion, S: TermStore>(
     let mut place = Place::Node(t);
     loop {
         match place {
-            Place::Node(id) => place = enter(alloc, inner, proof, &mut work, id)?,
+            Place::Node(id) => {
+                let next = enter(alloc, inner, proof, &mut work, id)?;
+                place = next;
+                continue;
+            }
             Place::Line(line) => match leave(alloc, inner, proof, &mut work, line)? {
-                Some(next) => place = next,
+                Some(next) => {
+                    place = next;
+                    continue;
+                }
                 None => return Ok(line),
             },
         }
