@@ -31,7 +31,7 @@ use Rattle.lt_derived.proofs.Stated.{stated}
 use Rattle.lt_derived.proofs.UnfoldingLemmas.{line-boolean}
 use Rattle.lt_conv.specs.Conversions.{Converts}
 use Rattle.lt_conv.specs.Unfolding.{types_for, is_instance, unfolded_by, unfolded, FitsRows, IsFitBy, FitsBy, IsStated, IsUnfoldedBy, AreTypesOf}
-use Rattle.lt_conv.proofs.Matched.{matched-instance, matched-types, matched-test, matched-sound, unmatched-test}
+use Rattle.lt_conv.proofs.Matched.{matched-instance, matched-types, matched-test, matched-sound, unmatched-test, other-test}
 
 -- ---- the types of constants
 
@@ -65,6 +65,11 @@ pub constants-fit : (l r : Nameless) (c d : Chars) (ps ts : List TypeTree) (o : 
     → FitsRows (type_constructor c (row ps)) (type_constructor c (row ts)) o → FitsBy l r o
 constants-fit l r c d ps ts o e k same h =
     subst (λ (u : Nameless). FitsBy u r o) (sym e) (subst (λ (u : Nameless). FitsBy (nameless_constant c ps) u o) (sym (k ∙ ap (λ n. nameless_constant n ts) same)) (rows-fit c ps ts o h))
+
+-- of different names
+pub constants-apart : (l r : Nameless) (c d : Chars) (ps ts : List TypeTree) → l ≡ nameless_constant c ps → r ≡ nameless_constant d ts → same_name d c ≡ false → FitsBy l r None
+constants-apart l r c d ps ts e k h =
+    subst (λ (u : Nameless). is_instance u r ≡ false) (sym e) (subst (λ (u : Nameless). is_instance (nameless_constant c ps) u ≡ false) (sym k) (other-test c d ps ts h))
 
 -- ---- a statement
 

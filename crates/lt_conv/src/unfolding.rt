@@ -99,7 +99,8 @@ fn match_constants<S: TermStore>(
     }
     let (name, pattern) = constant(store, c);
     let (other, types) = constant(store, t);
-    if *other != *name {
+    let same = *other == *name;
+    if !same {
         return Ok(None);
     }
     let map = match_rows(alloc, name, pattern, types)?;
