@@ -1,5 +1,7 @@
 -- Moves of a conversion from place to place.
-use Rattle.std.proofs.Common.{◌≡◌, inl, inr, ℕ, ◌+◌, ◌*◌, ◌<◌, ◌==◌, List, [], ◌∷◌, ◌++◌, length, reverse, Bool, true, false, if◌then◌else◌, Option, Some, None, refl, sym, ◌∙◌, ap, subst, arith}
+use Rattle.std.proofs.Common.{◌≡◌, inl, inr, ℕ, ◌+◌, ◌*◌, ◌<◌, ◌==◌, List, [], ◌∷◌, ◌++◌, length, reverse, Bool, true, false, if◌then◌else◌, Option, Some, None, IfSome, refl, sym, ◌∙◌, ap, subst, arith, rules}
+use Rattle.std.proofs.lemmas.Grind.{common_steps}
+use Rattle.std.specs.HashMap.{IsEmpty}
 use Rattle.std.proofs.lemmas.List.{reverse-append}
 use Rattle.std.proofs.lemmas.Bool.{cases_Bool, cond-true, cond-false, eqb-true}
 use Rattle.lt_definitions.specs.Types.{Chars, TypeTree, fun}
@@ -314,3 +316,26 @@ work-begins f s ls lines t h e none = record {
   where
     none-is : (n : ℕ) → None ≡ Some n → ⊥
     none-is n q = cc q
+
+-- nothing is known at first
+pub empty-lines : (lines : Lines) → IsEmpty lines → (id : ℕ) → line_in lines id ≡ None
+empty-lines lines e id = search (rules, common_steps)
+
+-- a place that is a node or a line
+abbrev pub leads-at : {f : Nameless → Option Nameless} {root : Nameless} {s : State} {ls : List Level} {lines : Lines} {p q : Place} → p ≡ q → LeadsOn f root s ls lines p → LeadsOn f root s ls lines q
+leads-at {f = f} {root = root} {s = s} {ls = ls} {lines = lines} e h = subst (LeadsOn f root s ls lines) e h
+
+pub place-less : (ns : List Node) (ls : List Level) (p q : Place) (m : ℕ) → p ≡ q → m < moves_left ns ls q → m < moves_left ns ls p
+place-less ns ls p q m e h = subst (λ (r : Place). m < moves_left ns ls r) (sym e) h
+
+-- what is behind a line
+pub goes-at : (f : Nameless → Option Nameless) (root : Nameless) (s : State) (ls : List Level) (lines : Lines) (n : ℕ) (o : Option Place) (p : Place) → o ≡ Some p → LeadsOrEnds f root s ls lines n o
+    → LeadsOn f root s ls lines p
+goes-at f root s ls lines n o p e h = subst (LeadsOrEnds f root s ls lines n) e h
+
+pub ends-at : (f : Nameless → Option Nameless) (root : Nameless) (s : State) (ls : List Level) (lines : Lines) (n : ℕ) (o : Option Place) → o ≡ None → LeadsOrEnds f root s ls lines n o
+    → Equates s n root (everywhere f root)
+ends-at f root s ls lines n o e h = subst (LeadsOrEnds f root s ls lines n) e h
+
+pub some-less : (ns : List Node) (ls : List Level) (o : Option Place) (p : Place) (m : ℕ) → o ≡ Some p → IfSome o (λ q. moves_left ns ls q < m) → moves_left ns ls p < m
+some-less ns ls o p m e h = subst (λ (r : Option Place). IfSome r (λ q. moves_left ns ls q < m)) e h

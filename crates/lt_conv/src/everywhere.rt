@@ -251,10 +251,9 @@ fn convert_everywhere<A: Conversion, S: TermStore>(
     ensures line { IfOk result (λ n. Equates proof.new n (tree_at proof.old.nodes t)
         (everywhere (A.gives inner.now (statements proof.old)) (tree_at proof.old.nodes t))) }
 {
-    let mut work = Work {
-        levels: Vec::new(alloc),
-        lines: HashMap::new(alloc),
-    };
+    let levels = Vec::new(alloc);
+    let lines = HashMap::new(alloc);
+    let mut work = Work { levels, lines };
     let mut place = Place::Node(t);
     loop {
         match place {
@@ -263,13 +262,16 @@ fn convert_everywhere<A: Conversion, S: TermStore>(
                 place = next;
                 continue;
             }
-            Place::Line(line) => match leave(alloc, inner, proof, &mut work, line)? {
-                Some(next) => {
-                    place = next;
-                    continue;
+            Place::Line(line) => {
+                let behind = leave(alloc, inner, proof, &mut work, line)?;
+                match behind {
+                    Some(next) => {
+                        place = next;
+                        continue;
+                    }
+                    None => return Ok(line),
                 }
-                None => return Ok(line),
-            },
+            }
         }
     }
 }
