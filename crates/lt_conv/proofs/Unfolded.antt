@@ -31,7 +31,8 @@ use Rattle.lt_derived.proofs.Stated.{stated}
 use Rattle.lt_derived.proofs.UnfoldingLemmas.{line-boolean}
 use Rattle.lt_conv.specs.Conversions.{Converts}
 use Rattle.lt_conv.specs.Unfolding.{types_for, is_instance, unfolded_by, unfolded, FitsRows, IsFitBy, FitsBy, IsStated, IsUnfoldedBy, AreTypesOf}
-use Rattle.lt_conv.proofs.Matched.{matched-instance, matched-types, matched-test, matched-sound, unmatched-test, other-test}
+use Rattle.lt_conv.proofs.Matched.{matched-instance, matched-types, matched-test, matched-sound, unmatched-test, other-test, none-right}
+use Rattle.lt_formulas.specs.Shapes.{is_constant}
 
 -- ---- the types of constants
 
@@ -130,6 +131,15 @@ module _ (sig : Signature) (o : Option Nameless) (t p : Nameless) (is : o ≡ So
     pub instance-types : (m : Option TypeMap) → nameless_fault sig t ≡ None → FitsBy e.1 t m → AreTypesOf sig o t m
     instance-types None typed k = no-instance k
     instance-types (Some m) typed k = an-instance m typed k
+
+-- no constant
+pub no-constant : (sig : Signature) (o : Option Nameless) (t : Nameless) → is_constant t ≡ false → AreTypesOf sig o t None
+no-constant sig None t h = refl
+no-constant sig (Some p) t h = by (nameless_as_equation p)
+  where
+    by : (d : Option (TypeTree × Nameless × Nameless)) → unfolded_by d t ≡ None
+    by None = refl
+    by (Some d) = cond-false (is_instance d.1 t) (Some (nameless_instance (types_for d.1 t) d.2)) None (none-right d.1 t h)
 
 -- ---- from the line of the statement
 

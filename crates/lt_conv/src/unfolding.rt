@@ -119,6 +119,9 @@ fn types_of<S: TermStore>(
     ensures types { IfOk result (AreTypesOf proof.old.signature
         (found label.now (statements proof.old)) (tree_at proof.old.nodes t)) }
 {
+    if !is_constant(proof, t) {
+        return Ok(None);
+    }
     let Some(line) = stated(alloc, proof, label)? else {
         return Ok(None);
     };

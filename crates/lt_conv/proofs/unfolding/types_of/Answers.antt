@@ -3,8 +3,12 @@ use Rattle.lt_definitions.specs.Types.{found}
 use Rattle.lt_store.specs.Trees.{tree_at}
 use Rattle.lt_kernel.specs.State.{statements}
 use Rattle.lt_derived.proofs.Repeated.{still-typed}
-use Rattle.lt_conv.proofs.Unfolded.{mapped-none, mapped-some, none-stated, stated-there, stated-unequal, stated-types, fits-before}
+use Rattle.lt_conv.proofs.Unfolded.{no-constant, mapped-none, mapped-some, none-stated, stated-there, stated-unequal, stated-types, fits-before}
 use Rattle.lt_conv.proofs.unfolding.types_of.Goals as goal
+
+pub returns-then-not-is_constant-clause-types : goal.returns-then-not-is_constant-clause-types
+returns-then-not-is_constant-clause-types g c =
+    no-constant c.args.proof.now.signature (found c.args.label.now (statements c.args.proof.now)) (tree_at c.args.proof.now.nodes c.args.t) (sym c.is_constant.ensures ∙ c.if-not-is_constant.true)
 
 pub returns-in_default-clause-types : goal.returns-in_default-clause-types
 returns-in_default-clause-types g c = none-stated c.stated.new.proof (found c.args.label.now (statements c.args.proof.now)) c.in_ok-line.field-0 c.in_ok-line.ensures.stated c.args.proof.now.signature (tree_at c.args.proof.now.nodes c.args.t) c.in_default.is
