@@ -78,7 +78,7 @@ pub(crate) fn count<S: TermStore>(
 
 /// Whether a term has more than 65,536 nodes, also where each free variable counts as one.
 ///
-/// This comes before all that walks the term as a tree, which may have more nodes than can be walked.
+/// This comes before all that walks the term as a tree, which may have more than can be walked.
 pub(crate) fn is_too_large<S: TermStore>(alloc: Global, store: &S, t: Id) -> Result<bool, Memory>
     requires { t < length (S.nodes store.now) }
     ensures { IfOk result (λ yes. yes ≡ true → 65536 < nodes (tree_at (S.nodes store.now) t)) }

@@ -24,7 +24,8 @@ use std::collections::HashMap;
 
 /// What `inner` gives at every place of a term, the parts of a term before the term that they make.
 ///
-/// The body of an abstraction is opened by the variable `vN` with the least N such that no free variable has that name.
+/// The body of an abstraction is opened by the variable `vN` with the least N such that no free
+/// variable of it has that name, and closed again.
 /// There is always a result. In a store that shares, a node is converted once.
 #[derive(Debug, Drop)]
 pub struct Everywhere<A> {

@@ -9,8 +9,8 @@ ghost use Rattle.lt_conv.specs.Everywhere.{free_names, new_name, settled, opened
 ghost use Rattle.lt_conv.specs.Walks.{IsFirstNew};
 ghost use Rattle.lt_conv.specs.Unfolding.{is_instance};
 
-/// `Everywhere` converts the parts of a term first, the body of an abstraction opened by a new variable and closed again, and then the
-/// term that they make, which stays where nothing is given for it.
+/// `Everywhere` converts the parts of a term first, the body of an abstraction opened by a new
+/// variable and closed again, and then the term that they make, which stays where nothing is given.
 pub fn parts_come_first()
     ensures application { (f : Nameless → Option Nameless) (g a : Nameless)
         → everywhere f (nameless_application g a)
@@ -22,7 +22,8 @@ pub fn parts_come_first()
         → is_abstraction t ≡ false → everywhere f t ≡ settled f t }
 {}
 
-/// The new name is vN with the least N such that no free variable has it, in a term of fewer than 2^64 free variables.
+/// The new name is vN with the least N such that no free variable has it, in a term of fewer than
+/// 2^64 free variables.
 pub fn new_names_are_the_least()
     ensures { (t : Nameless) → length (free_names t) < 2 ^ 64
         → IsFirstNew (free_names t) (new_name t) }

@@ -15,8 +15,8 @@ use lt_kernel::{Proof, RuleFault};
 use lt_store::{Id, TermStore};
 use std::alloc::Global;
 
-/// The body of a constant, where `label` is the label of a statement `c = b` with c a constant: b at the types that make c
-/// the term, where the term is an instance of c.
+/// The body of a constant, where `label` is the label of a statement `c = b` with c a constant:
+/// b at the types that make c the term, exactly where the term is an instance of c.
 #[derive(Debug, Drop)]
 pub struct Unfold {
     pub label: Name,
