@@ -1,5 +1,5 @@
 -- Nodes of terms that are still to be counted.
-use Rattle.std.proofs.Common.{◌≡◌, ℕ, suc, ◌+◌, ◌<◌, ◌≤◌, List, [], ◌∷◌, ◌++◌, length, replicate, max, min, ◌-◌, Option, Some, None, is_none, Bool, true, if◌then◌else◌, nat_lt, inl, inr, false, ◌&&◌, ◌||◌, refl, sym, ap, ◌∙◌, subst, arith}
+use Rattle.std.proofs.Common.{◌≡◌, ℕ, suc, ◌+◌, ◌<◌, ◌≤◌, List, [], ◌∷◌, ◌++◌, length, replicate, max, min, ◌-◌, Option, Some, None, Bool, true, if◌then◌else◌, nat_lt, inl, inr, false, ◌&&◌, ◌||◌, refl, sym, ap, ◌∙◌, subst, arith}
 use Rattle.std.proofs.lemmas.List.{length-replicate}
 use Rattle.std.proofs.lemmas.Bool.{cases_Bool, and_parts}
 use Rattle.lt_definitions.specs.Types.{Chars, same_name, TypeTree, same_type, type_nodes}
@@ -191,9 +191,10 @@ floor-least (nameless_constant c ts) = omega arith
 floor-least (nameless_application f a) = let h = floor-least f in let k = floor-least a in omega (arith, h, k)
 floor-least (nameless_abstraction ty b) = let h = floor-least b in omega (arith, h)
 
-pub many-nodes : (most : ℕ) (t : Nameless) (o : Option ℕ) → Counts most (nodes_over 0 t) o → is_none o ≡ true → most < nodes t
-many-nodes most t None h e = let l = floor-least t in omega (arith, h, l)
-many-nodes most t (Some k) h e = absurd (cc e)
+pub many-nodes : (most : ℕ) (t : Nameless) (o : Option ℕ) → Counts most (nodes_over 0 t) o → o ≡ None → most < nodes t
+many-nodes most t o h e =
+    let k : most < nodes_over 0 t = subst (Counts most (nodes_over 0 t)) e h in
+    let l = floor-least t in omega (arith, k, l)
 
 -- the greatest length of a name, as a store knows it
 pub longest-short : (n : ℕ) (t : Nameless) → longest_free t ≤ n → IsShort n t

@@ -143,11 +143,11 @@ no-constant sig (Some p) t h = by (nameless_as_equation p)
 
 -- ---- from the line of the statement
 
-pub mapped-none : {A B : Type 0} {f : A → B} {o : Option A} {p : Option B} → option_map f o ≡ p → o ≡ None → p ≡ None
-mapped-none {f = f} h e = sym h ∙ ap (option_map f) e
+pub mapped-none : {A B : Type 0} (f : A → B) {o : Option A} {p : Option B} → option_map f o ≡ p → o ≡ None → p ≡ None
+mapped-none f h e = sym h ∙ ap (option_map f) e
 
-pub mapped-some : {A B : Type 0} {f : A → B} {o : Option A} {p : Option B} (x : A) → option_map f o ≡ p → o ≡ Some x → p ≡ Some (f x)
-mapped-some {f = f} x h e = sym h ∙ ap (option_map f) e
+pub mapped-some : {A B : Type 0} (f : A → B) {o : Option A} {p : Option B} (x : A) → option_map f o ≡ p → o ≡ Some x → p ≡ Some (f x)
+mapped-some f x h e = sym h ∙ ap (option_map f) e
 
 module _ (s : State) (o : Option Nameless) (l : Option ℕ) (h : IsStated s o l) (sig : Signature) (t : Nameless) where
   pub none-stated : l ≡ None → AreTypesOf sig o t None

@@ -84,7 +84,10 @@ pub(crate) fn is_too_large<S: TermStore>(alloc: Global, store: &S, t: Id) -> Res
     ensures { IfOk result (λ yes. yes ≡ true → 65536 < nodes (tree_at (S.nodes store.now) t)) }
 {
     let counted = count(alloc, store, t, 0, 65536)?;
-    Ok(counted.is_none())
+    match counted {
+        Some(_) => Ok(false),
+        None => Ok(true),
+    }
 }
 
 /// The number of nodes of a right side; None where there are more than `most`.

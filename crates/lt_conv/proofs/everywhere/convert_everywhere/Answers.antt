@@ -27,21 +27,21 @@ loop-place-smaller-in-Node g c = place-less c.loop-place.proof.nodes (levels_of 
 pub leave-requires : goal.leave-requires
 leave-requires g c = at-work (g.A.Conversion.gives c.args.inner.now) c.args.proof.now c.loop-place.proof (tree_at c.args.proof.now.nodes c.args.t) (levels_of c.loop-place.work) c.loop-place.work.lines (AtLine c.in-Line.line) c.loop-place.invariant.carries c.requires.sound (leads-at c.in-Line.is c.loop-place.invariant.leads)
 
-pub loop-place-preserved-in-Some : goal.loop-place-preserved-in-Some
-loop-place-preserved-in-Some g c = record {
+pub loop-place-preserved : goal.loop-place-preserved
+loop-place-preserved g c = record {
   carries = λ first h. c.leave.ensures.carries first (c.loop-place.invariant.carries first h);
-  leads = goes-at (g.A.Conversion.gives c.args.inner.now (statements c.args.proof.now)) (tree_at c.args.proof.now.nodes c.args.t) c.leave.new.proof (levels_of c.leave.new.work) c.leave.new.work.lines c.in-Line.line c.in_ok-behind.behind c.in-Some.next c.in-Some.is
-      (c.in_ok-behind.ensures.leads (at-work (g.A.Conversion.gives c.args.inner.now) c.args.proof.now c.loop-place.proof (tree_at c.args.proof.now.nodes c.args.t) (levels_of c.loop-place.work) c.loop-place.work.lines (AtLine c.in-Line.line) c.loop-place.invariant.carries c.requires.sound (leads-at c.in-Line.is c.loop-place.invariant.leads)));
+  leads = goes-at (g.A.Conversion.gives c.args.inner.now (statements c.args.proof.now)) (tree_at c.args.proof.now.nodes c.args.t) c.leave.new.proof (levels_of c.leave.new.work) c.leave.new.work.lines c.in-Line.line c.in_ok-behind-in-Line.behind c.in-Some.next c.in-Some.is
+      (c.in_ok-behind-in-Line.ensures.leads (at-work (g.A.Conversion.gives c.args.inner.now) c.args.proof.now c.loop-place.proof (tree_at c.args.proof.now.nodes c.args.t) (levels_of c.loop-place.work) c.loop-place.work.lines (AtLine c.in-Line.line) c.loop-place.invariant.carries c.requires.sound (leads-at c.in-Line.is c.loop-place.invariant.leads)));
 }
 
-pub loop-place-smaller-in-Some : goal.loop-place-smaller-in-Some
-loop-place-smaller-in-Some g c = place-less c.loop-place.proof.nodes (levels_of c.loop-place.work) c.loop-place.place (AtLine c.in-Line.line) _ c.in-Line.is
-    (some-less c.leave.new.proof.nodes (levels_of c.leave.new.work) c.in_ok-behind.behind c.in-Some.next _ c.in-Some.is c.in_ok-behind.ensures.less)
+pub loop-place-smaller : goal.loop-place-smaller
+loop-place-smaller g c = place-less c.loop-place.proof.nodes (levels_of c.loop-place.work) c.loop-place.place (AtLine c.in-Line.line) _ c.in-Line.is
+    (some-less c.leave.new.proof.nodes (levels_of c.leave.new.work) c.in_ok-behind-in-Line.behind c.in-Some.next _ c.in-Some.is c.in_ok-behind-in-Line.ensures.less)
 
 pub returns-in-None-clause-carries : goal.returns-in-None-clause-carries
 returns-in-None-clause-carries g c = λ first h. c.leave.ensures.carries first (c.loop-place.invariant.carries first h)
 
 pub returns-in-None-clause-line : goal.returns-in-None-clause-line
 returns-in-None-clause-line g c =
-    ends-at (g.A.Conversion.gives c.args.inner.now (statements c.args.proof.now)) (tree_at c.args.proof.now.nodes c.args.t) c.leave.new.proof (levels_of c.leave.new.work) c.leave.new.work.lines c.in-Line.line c.in_ok-behind.behind c.in-None.is
-    (c.in_ok-behind.ensures.leads (at-work (g.A.Conversion.gives c.args.inner.now) c.args.proof.now c.loop-place.proof (tree_at c.args.proof.now.nodes c.args.t) (levels_of c.loop-place.work) c.loop-place.work.lines (AtLine c.in-Line.line) c.loop-place.invariant.carries c.requires.sound (leads-at c.in-Line.is c.loop-place.invariant.leads)))
+    ends-at (g.A.Conversion.gives c.args.inner.now (statements c.args.proof.now)) (tree_at c.args.proof.now.nodes c.args.t) c.leave.new.proof (levels_of c.leave.new.work) c.leave.new.work.lines c.in-Line.line c.in_ok-behind-in-Line.behind c.in-None.is
+    (c.in_ok-behind-in-Line.ensures.leads (at-work (g.A.Conversion.gives c.args.inner.now) c.args.proof.now c.loop-place.proof (tree_at c.args.proof.now.nodes c.args.t) (levels_of c.loop-place.work) c.loop-place.work.lines (AtLine c.in-Line.line) c.loop-place.invariant.carries c.requires.sound (leads-at c.in-Line.is c.loop-place.invariant.leads)))

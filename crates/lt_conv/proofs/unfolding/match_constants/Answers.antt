@@ -13,10 +13,10 @@ returns-then-not-is_constant-2 g c = none-right (tree_at (g.S.TermStore.nodes c.
 
 pub returns-then-not-same : goal.returns-then-not-same
 returns-then-not-same g c =
-    constants-apart (tree_at (g.S.TermStore.nodes c.args.store.now) c.args.c) (tree_at (g.S.TermStore.nodes c.args.store.now) c.args.t) c.constant-name.result.0.now c.constant-other.result.0.now c.constant-name.result.1.now
-    c.constant-other.result.1.now c.constant-name.ensures c.constant-other.ensures (sym c.eq-same.ensures ∙ c.if-not-same.true)
+    constants-apart (tree_at (g.S.TermStore.nodes c.args.store.now) c.args.c) (tree_at (g.S.TermStore.nodes c.args.store.now) c.args.t) c.constant.result.0.now c.constant-2.result.0.now c.constant.result.1.now
+    c.constant-2.result.1.now c.constant.ensures c.constant-2.ensures (sym c.eq-same.ensures ∙ c.if-not-same.true)
 
 pub returns : goal.returns
 returns g c =
-    constants-fit (tree_at (g.S.TermStore.nodes c.args.store.now) c.args.c) (tree_at (g.S.TermStore.nodes c.args.store.now) c.args.t) c.constant-name.result.0.now c.constant-other.result.0.now c.constant-name.result.1.now
-    c.constant-other.result.1.now c.in_ok-map.map c.constant-name.ensures c.constant-other.ensures (name-true c.constant-other.result.0.now c.constant-name.result.0.now (sym c.eq-same.ensures ∙ c.if-not-same.false)) c.in_ok-map.ensures
+    constants-fit (tree_at (g.S.TermStore.nodes c.args.store.now) c.args.c) (tree_at (g.S.TermStore.nodes c.args.store.now) c.args.t) c.constant.result.0.now c.constant-2.result.0.now c.constant.result.1.now
+    c.constant-2.result.1.now c.in_ok-map.map c.constant.ensures c.constant-2.ensures (name-true c.constant-2.result.0.now c.constant.result.0.now (sym c.eq-same.ensures ∙ c.if-not-same.false)) c.in_ok-map.ensures

@@ -1,5 +1,7 @@
 use Rattle.std.proofs.Common.{◌∙◌, sym}
-use Rattle.lt_definitions.specs.Types.{found}
+use Rattle.lt_nameless.specs.Nameless.{Nameless}
+use Rattle.lt_formulas.specs.declared.shapes.Equation.{Equation}
+use Rattle.lt_definitions.specs.Types.{found, TypeTree}
 use Rattle.lt_store.specs.Trees.{tree_at}
 use Rattle.lt_kernel.specs.State.{statements}
 use Rattle.lt_derived.proofs.Repeated.{still-typed}
@@ -18,8 +20,9 @@ conclusion-concl-requires g c = stated-there c.stated.new.proof (found c.args.la
 
 pub returns-in_default-2-clause-types : goal.returns-in_default-2-clause-types
 returns-in_default-2-clause-types g c =
+    let f : Equation → TypeTree × Nameless × Nameless = λ e. (e.ty, tree_at c.stated.new.proof.nodes e.left, tree_at c.stated.new.proof.nodes e.right) in
     stated-unequal c.stated.new.proof (found c.args.label.now (statements c.args.proof.now)) c.in_ok-line.field-0 c.in_ok-line.ensures.stated c.args.proof.now.signature (tree_at c.args.proof.now.nodes c.args.t) c.in-Some.line c.in-Some.is
-    (tree_at c.stated.new.proof.nodes c.conclusion-concl.result) c.conclusion-concl.ensures.is (mapped-none c.in_ok-equation.ensures.parts c.in_default-2.is)
+    (tree_at c.stated.new.proof.nodes c.conclusion-concl.result) c.conclusion-concl.ensures.is (mapped-none f c.in_ok-equation.ensures.parts c.in_default-2.is)
 
 pub match_constants-requires-clause-t : goal.match_constants-requires-clause-t
 match_constants-requires-clause-t g c = (still-typed c.args.proof.now c.stated.new.proof c.args.t c.stated.ensures.carries c.requires).within
@@ -27,7 +30,8 @@ match_constants-requires-clause-t g c = (still-typed c.args.proof.now c.stated.n
 pub returns-clause-types : goal.returns-clause-types
 returns-clause-types g c =
     let new = c.stated.new.proof in
+    let f : Equation → TypeTree × Nameless × Nameless = λ e. (e.ty, tree_at c.stated.new.proof.nodes e.left, tree_at c.stated.new.proof.nodes e.right) in
     stated-types c.stated.new.proof (found c.args.label.now (statements c.args.proof.now)) c.in_ok-line.field-0 c.in_ok-line.ensures.stated c.args.proof.now.signature (tree_at c.args.proof.now.nodes c.args.t) c.in-Some.line c.in-Some.is
-    (tree_at new.nodes c.conclusion-concl.result) c.conclusion-concl.ensures.is (c.in-Some-2.equation.ty, tree_at new.nodes c.in-Some-2.equation.left, tree_at new.nodes c.in-Some-2.equation.right)
-    (mapped-some c.in-Some-2.equation c.in_ok-equation.ensures.parts c.in-Some-2.is) c.in_ok-types.types c.requires.typed
+    (tree_at new.nodes c.conclusion-concl.result) c.conclusion-concl.ensures.is (f c.in-Some-2.equation)
+    (mapped-some f c.in-Some-2.equation c.in_ok-equation.ensures.parts c.in-Some-2.is) c.in_ok-types.types c.requires.typed
     (fits-before c.args.proof.now new c.args.t (tree_at new.nodes c.in-Some-2.equation.left) c.in_ok-types.types c.stated.ensures.carries c.requires.within c.in_ok-types.ensures)
