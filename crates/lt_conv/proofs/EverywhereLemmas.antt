@@ -1,15 +1,14 @@
 -- Conversions at every place: what they make of an application, of an abstraction and of a leaf; and new names.
-use Rattle.std.proofs.Common.{◌≡◌, ◌⊎◌, inl, inr, ℕ, zero, suc, ◌+◌, ◌<◌, ◌≤◌, ◌^◌, List, [], ◌∷◌, ◌++◌, length, Bool, true, false, if◌then◌else◌, nat_eq, codes, Option, Some, None, refl, sym, ◌∙◌, ap, subst, arith}
-use Rattle.std.specs.Fmt.{decimal}
+use Rattle.std.proofs.Common.{◌≡◌, inl, inr, ℕ, zero, suc, ◌+◌, ◌<◌, ◌≤◌, false, nat_eq, Option, refl, sym, ◌∙◌, ap, arith}
 use Rattle.std.proofs.lemmas.Bool.{cases_Bool, cond-true, cond-false}
-use Rattle.lt_definitions.specs.Types.{Chars, has_name, TypeTree}
+use Rattle.lt_definitions.specs.Types.{Chars, TypeTree}
 use Rattle.lt_nameless.specs.Nameless.{Nameless, nameless_free, nameless_bound, nameless_loose, nameless_constant, nameless_application, nameless_abstraction}
 use Rattle.lt_nameless.specs.NamelessRules.{instance_at}
 use Rattle.lt_store.specs.Trees.{tree_size}
 use Rattle.lt_formulas.specs.Shapes.{is_application}
 use Rattle.lt_reductions.specs.Reducts.{is_abstraction}
 use Rattle.lt_definitions.proofs.SameNames.{true-false}
-use Rattle.lt_conv.specs.Everywhere.{free_names, v_name, first_new, new_name, settled, opened_new, closed_new, settled_within, everywhere}
+use Rattle.lt_conv.specs.Everywhere.{new_name, settled, opened_new, closed_new, settled_within, everywhere}
 
 pub size-positive : (t : Nameless) → 0 < tree_size t
 size-positive (nameless_free x ty) = omega arith

@@ -2,9 +2,9 @@
 use Rattle.std.proofs.Common.{◌≡◌, inl, inr, ℕ, zero, suc, List, [], ◌∷◌, ◌++◌, map, slice_get, Bool, true, false, if◌then◌else◌, ◌&&◌, unwrap_or, is_some, Option, Some, None, refl, sym, ◌∙◌, ap, subst}
 use Rattle.std.proofs.lemmas.Bool.{cases_Bool, cond-true, cond-false}
 use Rattle.std.proofs.lemmas.List.{map-append}
-use Rattle.lt_definitions.specs.Types.{Chars, same_name, are_distinct, found, TypeTree, TypeTrees, TypeMap, type_variable, type_constructor, no_types, type_and, row, same_type, same_types, type_instance, types_instance, type_names, types_names, Matches}
+use Rattle.lt_definitions.specs.Types.{Chars, same_name, are_distinct, found, TypeTree, TypeTrees, TypeMap, type_variable, type_constructor, no_types, type_and, row, same_types, type_instance, types_instance, type_names, types_names, Matches}
 use Rattle.lt_definitions.specs.Typing.{Signature, type_fault, types_fault}
-use Rattle.lt_definitions.proofs.SameNames.{true-false, name-true, true-name, type-true, true-type, both-true, true-both}
+use Rattle.lt_definitions.proofs.SameNames.{true-false, name-true}
 use Rattle.lt_definitions.proofs.TypingLemmas.{both-none, none-both}
 use Rattle.lt_nameless.specs.Nameless.{Nameless, nameless_free, nameless_bound, nameless_loose, nameless_constant, nameless_application, nameless_abstraction}
 use Rattle.lt_nameless.specs.NamelessRules.{nameless_instance, same_nameless}

@@ -1,5 +1,5 @@
 -- Nodes of terms that are still to be counted.
-use Rattle.std.proofs.Common.{◌≡◌, ℕ, suc, ◌+◌, ◌<◌, ◌≤◌, List, [], ◌∷◌, ◌++◌, length, replicate, max, min, ◌-◌, Option, Some, None, Bool, true, if◌then◌else◌, nat_lt, inl, inr, false, ◌&&◌, ◌||◌, refl, sym, ap, ◌∙◌, subst, arith}
+use Rattle.std.proofs.Common.{◌≡◌, ℕ, suc, ◌+◌, ◌<◌, ◌≤◌, List, [], ◌∷◌, ◌++◌, length, replicate, max, min, ◌-◌, Option, None, Bool, true, if◌then◌else◌, nat_lt, inl, inr, false, ◌&&◌, ◌||◌, refl, sym, ap, ◌∙◌, subst, arith}
 use Rattle.std.proofs.lemmas.List.{length-replicate}
 use Rattle.std.proofs.lemmas.Bool.{cases_Bool, and_parts}
 use Rattle.lt_definitions.specs.Types.{Chars, same_name, TypeTree, same_type, type_nodes}

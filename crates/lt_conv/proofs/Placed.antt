@@ -1,13 +1,13 @@
 -- Moves of a conversion from place to place.
-use Rattle.std.proofs.Common.{◌≡◌, inl, inr, ℕ, ◌+◌, ◌*◌, ◌<◌, ◌==◌, List, [], ◌∷◌, ◌++◌, length, reverse, Bool, true, false, if◌then◌else◌, Option, Some, None, IfSome, refl, sym, ◌∙◌, ap, subst, arith, rules}
+use Rattle.std.proofs.Common.{◌≡◌, inl, inr, ℕ, ◌+◌, ◌*◌, ◌<◌, ◌==◌, List, [], ◌∷◌, ◌++◌, length, reverse, if◌then◌else◌, Option, Some, None, IfSome, refl, sym, ◌∙◌, ap, subst, arith, rules}
 use Rattle.std.proofs.lemmas.Grind.{common_steps}
 use Rattle.std.specs.HashMap.{IsEmpty}
 use Rattle.std.proofs.lemmas.List.{reverse-append}
 use Rattle.std.proofs.lemmas.Bool.{cases_Bool, cond-true, cond-false, eqb-true}
 use Rattle.lt_definitions.specs.Types.{Chars, TypeTree, fun}
 use Rattle.lt_definitions.proofs.TypingLemmas.{typed-some}
-use Rattle.lt_nameless.specs.Nameless.{Nameless, nameless_free, nameless_application, nameless_abstraction}
-use Rattle.lt_nameless.specs.NamelessRules.{nameless_typed, nameless_fault, instance_at}
+use Rattle.lt_nameless.specs.Nameless.{Nameless, nameless_application}
+use Rattle.lt_nameless.specs.NamelessRules.{nameless_typed, nameless_fault}
 use Rattle.lt_store.specs.declared.node.Node.{Node}
 use Rattle.lt_store.specs.Trees.{tree_at, tree_size}
 use Rattle.lt_store.specs.Typed.{IsTyped}
@@ -24,7 +24,7 @@ use Rattle.lt_conv.specs.declared.places.Level.TheVariants.{Function, Argument, 
 use Rattle.lt_conv.specs.declared.places.Place.{Place}
 use Rattle.lt_conv.specs.declared.places.Place.TheVariants.{Node as AtNode, Line as AtLine}
 use Rattle.lt_conv.specs.Everywhere.{everywhere}
-use Rattle.lt_conv.specs.Places.{Lines, line_in, IsConverted, AreConverted, IsHeadOf, IsArgumentOf, IsBodyOf, IsInside, IsLineInside, IsPlace, IsAtWork, LeadsOn, LeadsOrEnds, argument_size, levels_work, moves_left}
+use Rattle.lt_conv.specs.Places.{Lines, line_in, IsConverted, AreConverted, IsHeadOf, IsArgumentOf, IsBodyOf, IsInside, IsPlace, IsAtWork, LeadsOn, LeadsOrEnds, argument_size, levels_work, moves_left}
 use Rattle.lt_conv.specs.Settling.{HasParts, HasBody}
 use Rattle.lt_conv.proofs.EverywhereLemmas.{size-positive, opened-size}
 use Rattle.lt_conv.proofs.Converting.{still-sound}

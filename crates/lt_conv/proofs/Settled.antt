@@ -1,6 +1,6 @@
 -- Nodes whose parts were converted.
-use Rattle.std.proofs.Common.{◌≡◌, ℕ, ◌<◌, List, [], ◌∷◌, length, false, Ok, Option, Some, None, refl, sym, ◌∙◌, ap, subst, arith}
-use Rattle.lt_definitions.specs.Types.{Chars, TypeTree, fun}
+use Rattle.std.proofs.Common.{◌≡◌, ℕ, ◌<◌, List, [], ◌∷◌, length, false, Ok, Option, Some, None, sym, ◌∙◌, ap, subst}
+use Rattle.lt_definitions.specs.Types.{Chars, TypeTree}
 use Rattle.lt_definitions.specs.Typing.{type_fault, unless}
 use Rattle.lt_definitions.proofs.TypingLemmas.{typed-some}
 use Rattle.lt_nameless.specs.Nameless.{Nameless, nameless_free, nameless_application, nameless_abstraction}
@@ -13,13 +13,13 @@ use Rattle.lt_kernel.specs.State.{State, statements}
 use Rattle.lt_kernel.specs.Growing.{Carries}
 use Rattle.lt_kernel.proofs.GrowingLemmas.{carries-grows}
 use Rattle.lt_programs.specs.TypedTerms.{IsOfType}
-use Rattle.lt_programs.proofs.TypedTermLemmas.{abstraction-of, opened-of, of-sound}
+use Rattle.lt_programs.proofs.TypedTermLemmas.{abstraction-of, opened-of}
 use Rattle.lt_reductions.proofs.Placing.{opened-closed}
 use Rattle.lt_derived.specs.Equations.{Equates, Stands, IsEquation, Meet, Apply}
 use Rattle.lt_derived.proofs.EquationLemmas.{equates-kept, of-kept, stands-typed}
 use Rattle.lt_derived.proofs.Repeated.{still-typed}
 use Rattle.lt_conv.specs.Conversions.{Converts}
-use Rattle.lt_conv.specs.Everywhere.{new_name, or_itself, settled, opened_new, closed_new, everywhere}
+use Rattle.lt_conv.specs.Everywhere.{new_name, or_itself, settled, everywhere}
 use Rattle.lt_conv.specs.Places.{IsBodyOf}
 use Rattle.lt_conv.specs.Settling.{HasParts, HasBody}
 use Rattle.lt_conv.proofs.Converting.{converted, not-converted, at-line}

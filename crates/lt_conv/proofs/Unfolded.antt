@@ -3,7 +3,7 @@ use Rattle.std.proofs.Common.{◌≡◌, ℕ, ◌<◌, List, [], ◌∷◌, leng
 use Rattle.std.specs.Option.{option_map}
 use Rattle.std.proofs.lemmas.Bool.{cond-true, cond-false}
 use Rattle.std.proofs.lemmas.Option.{same_Some}
-use Rattle.lt_definitions.specs.Types.{Chars, same_name, found, TypeTree, TypeMap, type_variable, type_constructor, bool, fun, row, type_variables, type_instance, are_distinct, Matches}
+use Rattle.lt_definitions.specs.Types.{Chars, same_name, found, TypeTree, TypeMap, type_variable, type_constructor, bool, fun, row, type_variables, type_instance}
 use Rattle.lt_definitions.specs.Typing.{Signature, Fault, type_args, built_in, at_types, constant_type, unless, types_fault}
 use Rattle.lt_definitions.specs.declared.reason.Reason.{Reason}
 use Rattle.lt_definitions.specs.declared.reason.Reason.TheVariants.{UnknownLabel}
@@ -13,9 +13,9 @@ use Rattle.lt_definitions.proofs.RuleLemmas.{some-if}
 use Rattle.lt_definitions.proofs.SameNames.{name-true}
 use Rattle.lt_definitions.proofs.TypingLemmas.{typed-some}
 use Rattle.lt_nameless.specs.Nameless.{Nameless, nameless_constant, nameless_application}
-use Rattle.lt_nameless.specs.NamelessRules.{NamelessOutcome, nameless_typed, nameless_fault, nameless_equation, nameless_as_equation, nameless_instance, nameless_thm_gives, IsBooleanNameless, IsBooleanNamelessSequent}
+use Rattle.lt_nameless.specs.NamelessRules.{nameless_typed, nameless_fault, nameless_equation, nameless_as_equation, nameless_instance, nameless_thm_gives}
 use Rattle.lt_kernel.specs.declared.rule_fault.RuleFault.{RuleFault}
-use Rattle.lt_kernel.specs.declared.rule_fault.RuleFault.TheVariants.{Bad, Duplicate, Memory}
+use Rattle.lt_kernel.specs.declared.rule_fault.RuleFault.TheVariants.{Memory}
 use Rattle.lt_kernel.specs.State.{State, sequents, statements}
 use Rattle.lt_kernel.specs.Growing.{IsSound, Carries}
 use Rattle.lt_kernel.proofs.GrowingLemmas.{carries-grows}

@@ -1,8 +1,8 @@
 use Rattle.std.proofs.Common.{◌∷◌, reverse}
 use Rattle.lt_conv.specs.declared.places.Level.TheVariants.{Function, Argument, Body}
 use Rattle.lt_conv.specs.declared.places.Place.TheVariants.{Line as AtLine}
-use Rattle.lt_conv.specs.Places.{levels_of, moves_left}
-use Rattle.lt_conv.proofs.Placed.{level-taken, with_levels, line-ends, less-of}
+use Rattle.lt_conv.specs.Places.{levels_of}
+use Rattle.lt_conv.proofs.Placed.{level-taken, with_levels, less-of}
 use Rattle.lt_conv.proofs.everywhere.leave.Goals as goal
 
 pub enter_argument-requires : goal.enter_argument-requires

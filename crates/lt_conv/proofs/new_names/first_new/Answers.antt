@@ -1,4 +1,4 @@
-use Rattle.std.proofs.Common.{◌≡◌, ◌+◌, ◌≤◌, true, length, sym, ◌∙◌, ap, arith}
+use Rattle.std.proofs.Common.{◌≡◌, ◌+◌, true, sym, ◌∙◌, ap, arith}
 use Rattle.lt_definitions.specs.Types.{has_name}
 use Rattle.lt_conv.specs.Everywhere.{v_name}
 use Rattle.lt_conv.proofs.NewNames.{taken-more, taken-few}
