@@ -11,7 +11,7 @@ use Rattle.lt_texts.specs.WrongPlaces.{Wrong, bad_header, bad_command, bad_synta
 use Rattle.lt_walks.specs.Walks.{End, accepted, too_long, wrong_header, unread, refused}
 use Rattle.lt_walks.specs.RefusalTexts.{printed_refusal, wrong_word, wrong_place}
 use Rattle.lt_walks.specs.Outputs.{line_about, check_line}
-use Rattle.lt_plain.specs.declared.refusal.Placed.{Placed}
+use Rattle.lt_commands.specs.declared.refusal.Placed.{Placed}
 use Rattle.lt_plain.specs.Telling.{as_placed, TellsEnd}
 use Rattle.lt_plain.specs.Showing.{shown_words}
 use Rattle.lt_plain.proofs.Showings.{told_prints, wrong_prints}

@@ -7,7 +7,7 @@ use Rattle.lt_io.specs.Written.{Grew, GrewByFront}
 use Rattle.lt_walks.specs.Walks.{End, accepted, too_long, wrong_header, unread, refused}
 use Rattle.lt_walks.specs.PlainWalks.{ChecksText}
 use Rattle.lt_walks.specs.Outputs.{summary_of, check_line}
-use Rattle.lt_plain.specs.declared.refusal.Placed.{Placed}
+use Rattle.lt_commands.specs.declared.refusal.Placed.{Placed}
 use Rattle.lt_plain.specs.Telling.{TellsEnd}
 use Rattle.lt_run.specs.declared.files.Joined.{Joined}
 use Rattle.lt_run.specs.Joining.{IsJoinedOf}

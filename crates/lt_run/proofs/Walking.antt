@@ -18,8 +18,8 @@ use Rattle.lt_walks.specs.PlainWalks.{ChecksText}
 use Rattle.lt_walks.specs.Outputs.{summary_of}
 use Rattle.lt_walks.proofs.OnTheWay.{ComesTo, has_end}
 use Rattle.lt_walks.proofs.PlainWalkLemmas.{each_text_check}
-use Rattle.lt_plain.specs.declared.refusal.Refusal.TheVariants.{Memory as NoMemory}
-use Rattle.lt_plain.specs.declared.refusal.Placed.{Placed}
+use Rattle.lt_commands.specs.declared.refusal.Refusal.TheVariants.{Memory as NoMemory}
+use Rattle.lt_commands.specs.declared.refusal.Placed.{Placed}
 use Rattle.lt_plain.specs.Telling.{TellsEnd}
 use Rattle.lt_plain.specs.Stepping.{IsNext, StopsAt, RefusesHeader}
 use Rattle.lt_plain.proofs.Steppings.{on_by, at_end, at_stop, in_header}

@@ -7,8 +7,8 @@ use Rattle.lt_io.specs.Written.{Grew, GrewByFront}
 use Rattle.lt_walks.specs.Walks.{End, accepted}
 use Rattle.lt_walks.specs.PlainWalks.{ChecksText}
 use Rattle.lt_walks.specs.Outputs.{summary_of}
-use Rattle.lt_plain.specs.declared.refusal.Refusal.TheVariants.{Memory as NoMemory}
-use Rattle.lt_plain.specs.declared.refusal.Placed.{Placed}
+use Rattle.lt_commands.specs.declared.refusal.Refusal.TheVariants.{Memory as NoMemory}
+use Rattle.lt_commands.specs.declared.refusal.Placed.{Placed}
 use Rattle.lt_plain.specs.Telling.{TellsEnd}
 use Rattle.lt_run.specs.declared.walk.Stop.{Stop}
 use Rattle.lt_run.specs.declared.walk.Stop.TheVariants.{Refused, Fault, Memory}

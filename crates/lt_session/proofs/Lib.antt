@@ -1,0 +1,5 @@
+-- What the prover doesn't find alone.
+pub mod Takings
+pub mod Totals
+pub mod OnTheWay
+pub mod Steppings
