@@ -3,3 +3,5 @@ pub mod Takings
 pub mod Totals
 pub mod OnTheWay
 pub mod Steppings
+pub mod Fronts
+pub mod Runnings

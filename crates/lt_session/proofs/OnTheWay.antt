@@ -6,11 +6,23 @@ use Rattle.lt_texts.specs.Commands.{Command}
 use Rattle.lt_texts.specs.Forms.{theory_text, header_text}
 use Rattle.lt_texts.specs.WrongPlaces.{Wrong, Stands, HeaderFailsAt}
 use Rattle.lt_texts.specs.CommandPlaces.{NextPlaced}
-use Rattle.lt_walks.specs.Walks.{End, wrong_header, EndsThere, WalksOn, WalksText}
+use Rattle.lt_walks.specs.Walks.{Meanings, End, too_long, wrong_header, EndsThere, WalksOn, WalksText}
 use Rattle.lt_walks.proofs.EachWalk.{each_on}
 use Rattle.lt_transport_definitions.specs.Sessions.{Session, new_session}
 use Rattle.lt_session.specs.Walks.{RunRefusal, GivesBuilt, built_commands}
 use Rattle.lt_session.proofs.Totals.{built_total}
+
+-- how a walk ends behind its header
+abbrev pub IsBehind : {R : Type 0} → End R → Type 0
+IsBehind too_long = ⊥
+IsBehind (wrong_header e) = ⊥
+IsBehind end = Unit {0}
+
+pub on-end : {S R : Type 0} (M : Meanings S R) (s : S) (at : Left) (blocks : List (List Item)) (end : End R) → WalksOn M s at blocks end → IsBehind end
+on-end {S} {R} M s at [] end (inl (k, e)) = subst (λ (z : End R). IsBehind z) (sym e) tt
+on-end {S} {R} M s at [] end (inr (inl (w, f, e))) = subst (λ (z : End R). IsBehind z) (sym e) tt
+on-end {S} {R} M s at [] end (inr (inr (c, from, lines, to, b, n, r, f, e))) = subst (λ (z : End R). IsBehind z) (sym e) tt
+on-end M s at (items ∷ blocks) end (c, from, lines, to, b, n, later, adds, w) = on-end M later b blocks end w
 
 -- From a text's begin these blocks were added, and the walk comes to this place in this session: what it adds from here on is added
 -- behind them, and it ends as it ends from here on.
@@ -40,6 +52,7 @@ header_ends limit text e h = inl (e, h, refl, refl)
 
 -- a walk on its way has an end
 pub has_end : (limit : ℕ) (text : List ℕ) (blocks : List (List Item)) (s : Session) (at : Left) → ComesTo limit text blocks s at
-    → (more : List (List Item)) × (end : End RunRefusal) × WalksText (built_commands limit) text (blocks ++ more) end
+    → (more : List (List Item)) × (end : End RunRefusal) × WalksText (built_commands limit) text (blocks ++ more) end × IsBehind end
 unfolding ComesTo
-has_end limit text blocks s at h = let w = each_on (built_commands limit) (built_total limit) s at in (w.0, w.1, h w.0 w.1 w.2)
+has_end limit text blocks s at h =
+    let w = each_on (built_commands limit) (built_total limit) s at in (w.0, w.1, h w.0 w.1 w.2, on-end (built_commands limit) s at w.0 w.1 w.2)

@@ -14,6 +14,9 @@ use Rattle.lt_definitions.specs.Theory.{refusal, unknown_statement, at_fault, no
 use Rattle.lt_hol.specs.declared.item.Item.{Item}
 use Rattle.lt_hol.specs.Items.{item_of}
 use Rattle.lt_texts.specs.Commands.{Command, item_command, law_command}
+use Rattle.lt_commands.specs.Views.{command_of}
+use Rattle.lt_commands.specs.declared.command.Command.{Command as Data}
+use Rattle.lt_commands.specs.declared.command.Command.TheVariants.{TypeDecl, ConstDecl, Axiom, Def, Typedef, Lemma, Law, Corr, Relator, Property, Domain, Rule as RuleCommand, Lifting, LiftingTypedef, QuotientType, Lift, Parametric, ParamRule, Equiv, Implies, Carry, AbsEq, RepEq}
 use Rattle.lt_commands.specs.declared.refusal.Refused.{Refused}
 use Rattle.lt_commands.specs.declared.refusal.Refusal.{Refusal}
 use Rattle.lt_commands.specs.declared.refusal.Refusal.TheVariants.{NotBuilt, UnknownLabel, Memory}
@@ -24,6 +27,7 @@ use Rattle.lt_extend.proofs.Committed.{behind-item}
 use Rattle.lt_walks.specs.PlainWalks as plain
 use Rattle.lt_plain.specs.Flattening.{flat, line_in}
 use Rattle.lt_plain.specs.Telling.{Tells}
+use Rattle.lt_plain.specs.Stepping.{is_item}
 use Rattle.lt_plain.proofs.Tellings.{IsTold, told}
 use Rattle.lt_laws.specs.declared.law_fault.LawFault.{LawFault}
 use Rattle.lt_laws.specs.declared.law_fault.LawFault.TheVariants as faults
@@ -71,6 +75,7 @@ takes-item old new item e h l m = record {
   added = item ∷ [];
   items = h;
   gives = subst (λ (s : Session). Gives (session_of old) (item_command (item_of item)) (item_of item ∷ []) s) (behind-block old new item h l m) (gives-item (session_of old) (item_of item) e);
+  limit = m;
 }
 
 pub refused-item : (s : Session) (i : theory.Item) (r : refusals.Refusal) → refusal s.context i ≡ Some r → ComesOf s (item_command i) (Err (as_item r))
@@ -166,6 +171,7 @@ takes-law old new w l t e f h k m = record {
   added = [];
   items = h ∙ sym (append-nil old.items);
   gives = subst (λ (s : Session). Gives (session_of old) (law_command w l) [] s) (behind-law old new w l h k m) (gives-law (session_of old) w l t e f);
+  limit = m;
 }
 
 -- the refusal of a law, as one of the table
@@ -220,3 +226,31 @@ pub refuses-label : (s : Holding) (w l : Chars) → found l (context_behind s.it
     → Refuses (session_of s) (law_command w l) (record { refusal = UnknownLabel l; line = None })
 refuses-label s w l e =
     inr (inr (record { command = refl; first = as_item (unknown_statement l); comes = refused-label (session_of s) w l e; tells = refl; line = refl }))
+
+-- ---- other commands
+
+-- A command that adds no item and is no `law` isn't built.
+pub other-unbuilt : (c : Data) → is_item (command_of c) ≡ false → ((w l : Chars) → c ≢ Law w l) → is_built (command_of c) ≡ false
+other-unbuilt (TypeDecl a b) h k = absurd (cc h)
+other-unbuilt (ConstDecl a b) h k = absurd (cc h)
+other-unbuilt (Axiom a b) h k = absurd (cc h)
+other-unbuilt (Def a b d) h k = absurd (cc h)
+other-unbuilt (Typedef a b d e f g) h k = absurd (cc h)
+other-unbuilt (Lemma a b d) h k = absurd (cc h)
+other-unbuilt (Law a b) h k = absurd (k a b refl)
+other-unbuilt (Corr a) h k = refl
+other-unbuilt (Relator a b d e f g) h k = refl
+other-unbuilt (Property a) h k = refl
+other-unbuilt (Domain a) h k = refl
+other-unbuilt (RuleCommand a) h k = refl
+other-unbuilt (Lifting a) h k = refl
+other-unbuilt (LiftingTypedef a) h k = refl
+other-unbuilt (QuotientType a b d e) h k = refl
+other-unbuilt (Lift a b d e) h k = refl
+other-unbuilt (Parametric a) h k = refl
+other-unbuilt (ParamRule a b d) h k = refl
+other-unbuilt (Equiv a b) h k = refl
+other-unbuilt (Implies a b) h k = refl
+other-unbuilt (Carry a b d) h k = refl
+other-unbuilt (AbsEq a) h k = refl
+other-unbuilt (RepEq a) h k = refl

@@ -3,3 +3,5 @@ pub mod Sessions
 pub mod Taking
 pub mod Walks
 pub mod Stepping
+pub mod Counts
+pub mod Running

@@ -58,6 +58,7 @@ pub record IsTaken (old : Holding) (c : Command) (new : Holding) : Type 0 where
   pub added : List Item
   pub items : new.items ≡ old.items ++ added
   pub gives : Gives (session_of old) c (items_of added) (session_of new)
+  pub limit : new.limit ≡ old.limit
 
 -- The command was taken, or it wasn't, and then all is as before.
 abbrev pub Takes : Holding → Command → Holding → Result (Unit {0}) Refused → Type 0
