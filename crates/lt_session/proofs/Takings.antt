@@ -110,17 +110,6 @@ refuses-item s item fault x h same line = by (told (refusal (context_behind s.it
 
 -- ---- laws
 
-there-by : (b : Bool) (x : Chars) (rest : Option Chars) (any : Bool) → is_some rest ≡ any → is_some (if b then Some x else rest) ≡ (b || any)
-there-by true x rest any h = refl
-there-by false x rest any h = h
-
-there-found : (w : Chars) (ps : List (Chars × Chars)) → is_some (found w ps) ≡ list_any (λ p. same_name w p.0) ps
-there-found w [] = refl
-there-found w (p ∷ ps) = there-by (same_name w p.0) p.1 (found w ps) (list_any (λ q. same_name w q.0) ps) (there-found w ps)
-
-kept-law : (w l : Chars) (laws : List (Chars × Chars)) → with_law w l laws ≡ unless_there (λ p. same_name w p.0) (w, l) laws
-kept-law w l laws = ap (λ (b : Bool). if b then laws else laws ++ (w, l) ∷ []) (there-found w laws)
-
 law-row : Session → Chars → Chars → Option TermTree → Row
 law-row s w l t = with_value t (as_item (unknown_statement l)) λ u.
     with_value (law_statement w) (because "UnknownLaw" (w ∷ [])) λ law.
@@ -160,8 +149,7 @@ gives-law s w l t e f = (law-block w l, comes-law s w l (Some t) _ e (unless-law
 behind-law : (old new : Holding) (w l : Chars) → new.items ≡ old.items → new.laws ≡ with_law w l old.laws → new.limit ≡ old.limit
     → session_behind (session_of old) (law-block w l) ≡ session_of new
 behind-law old new w l h k m =
-    let e : new.laws ≡ unless_there (λ p. same_name w p.0) (w, l) old.laws = k ∙ kept-law w l old.laws in
-    sym (λ i. record (session_of old) { context = context_behind (h i); typedefs = typedefs_of (items_of (h i)); laws = e i; limit = m i })
+    sym (λ i. record (session_of old) { context = context_behind (h i); typedefs = typedefs_of (items_of (h i)); laws = k i; limit = m i })
 
 -- A law was registered.
 pub takes-law : (old new : Holding) (w l : Chars) (t : TermTree) → found l (context_behind old.items).statements ≡ Some t → law_fault w t ≡ None → new.items ≡ old.items
