@@ -207,11 +207,7 @@ fn write_not_quotient(text: &mut Text, part: QuotientPart) -> Result<(), Memory>
 }
 
 /// Adds the property and the head that have a rule already.
-fn write_duplicate_property(
-    text: &mut Text,
-    property: Property,
-    head: &Name,
-) -> Result<(), Memory>
+fn write_duplicate_property(text: &mut Text, property: Property, head: &Name) -> Result<(), Memory>
     ensures { OnOk result (text.new ≡ text.old ++ (codes "DuplicateProperty" ++ (codes " "
         ++ (property_word property ++ (codes " " ++ head.now))))) }
 {

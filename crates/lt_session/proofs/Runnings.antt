@@ -229,6 +229,7 @@ stopped limit summary text h at a b p w (inr (end, stop, tells)) =
     refused-last (wrong_header e) no = append-nil (written_so_far summary (items_of h.items))
     refused-last (unread e) no = append-nil (written_so_far summary (items_of h.items))
     refused-last (refused r place) no = append-nil (written_so_far summary (items_of h.items))
+
     told-not-accepted : (e : End RunRefusal) (q : Placed) → TellsEnd e q → e ≡ accepted → ⊥
     told-not-accepted accepted q k = absurd k
     told-not-accepted too_long q k = absurd k

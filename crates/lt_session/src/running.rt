@@ -127,12 +127,7 @@ fn write_from<O: Sink>(
 }
 
 /// Writes an item, as its command or as its summary line.
-fn write_one<O: Sink>(
-    alloc: Global,
-    item: &Item,
-    summary: bool,
-    out: &mut O,
-) -> Result<(), Stop>
+fn write_one<O: Sink>(alloc: Global, item: &Item, summary: bool, out: &mut O) -> Result<(), Stop>
     ensures all { OnOk result (Grew (O.written out.old) (O.written out.new)
         (encode_utf8_all (written_item summary (item_of item.now)))) }
     ensures front { OnErr result (GrewByFront (O.written out.old) (O.written out.new)
@@ -149,12 +144,7 @@ fn write_one<O: Sink>(
 }
 
 /// Writes the line of counts, where a summary is asked for.
-fn finish<O: Sink>(
-    alloc: Global,
-    items: &[Item],
-    summary: bool,
-    out: &mut O,
-) -> Result<(), Stop>
+fn finish<O: Sink>(alloc: Global, items: &[Item], summary: bool, out: &mut O) -> Result<(), Stop>
     ensures all { OnOk result (Grew (O.written out.old) (O.written out.new)
         (encode_utf8_all (written_last summary (map item_of items.now)))) }
     ensures front { OnErr result (GrewByFront (O.written out.old) (O.written out.new)
