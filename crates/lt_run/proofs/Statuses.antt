@@ -11,10 +11,11 @@ use Rattle.lt_commands.specs.declared.refusal.Placed.{Placed}
 use Rattle.lt_plain.specs.Telling.{TellsEnd}
 use Rattle.lt_run.specs.declared.files.Joined.{Joined}
 use Rattle.lt_run.specs.Joining.{IsJoinedOf}
-use Rattle.lt_run.specs.Places.{AreNames}
+use Rattle.lt_run.specs.Places.{AreNames, placed_line}
 use Rattle.lt_run.specs.Walked.{IsCut, IsEnd}
 use Rattle.lt_run.specs.Endings.{IsTold}
 use Rattle.lt_run.proofs.Fronts.{Grew-none, front_all}
+use Rattle.lt_run.proofs.Lines.{line_told}
 
 -- the line on a text that is accepted is none
 line-none : (held : List File) (e : Option (List ℕ)) → Grew e e (check_line held accepted)
@@ -39,12 +40,12 @@ tells-refusal (refused r place) p h = λ same. cc same
 -- something is refused, and told
 pub told_refused : (names : List (List ℕ)) (j : Joined) (text : List ℕ) (items : List Item) (p : Placed) (out out' err err' : Option (List ℕ)) → text ≡ j.text.items
     → (end : End Refusal) × IsEnd text items end out out' × TellsEnd end p
-    → ((held : List File) (end : End Refusal) → AreNames names held → IsJoinedOf held j → TellsEnd end p → Grew err err' (check_line held end))
+    → ((held : List File) → AreNames names held → IsJoinedOf held j → Grew err err' (placed_line held p))
     → (end : End Refusal) × (end ≢ accepted) × IsTold names j items end out out' err err'
 told_refused names j text items p out out' err err' e (end, w, tells) line = (
   end,
   tells-refusal end p tells,
-  record { walked = subst (λ (z : List ℕ). IsEnd z items end out out') e w; line = λ held are joined. line held end are joined tells },
+  record { walked = subst (λ (z : List ℕ). IsEnd z items end out out') e w; line = λ held are joined. subst (λ (z : List ℕ). Grew err err' z) (line_told held end p tells) (line held are joined) },
 )
 
 -- all of a summary is a front of it

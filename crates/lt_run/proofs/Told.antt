@@ -27,7 +27,7 @@ use Rattle.lt_run.proofs.Joins.{names_of, joined_parts}
 all-read : (files : Option Files) (names : List (List ℕ)) (held : List File) → AreNamed files names held → AreRead files names held
 all-read files names held h = record { first = names; others = []; order = sym (append-nil names); named = h; all = inl refl }
 
-pub joined_some : (files : Option Files) (names : List (List ℕ)) (j : Joined) → AreJoined files names j → 0 < length names → IsJoinedOfSome names j
+pub joined_some : (files : Option Files) (names : List (List ℕ)) (j : Joined) → AreJoined plain_limit files names j → 0 < length names → IsJoinedOfSome names j
 joined_some files names j h some = record { held = h.held; named = names_of files names h.held h.named; joined = h.joined; some = held-some files names h.held h.named some }
   where
     held-some : (files : Option Files) (names : List (List ℕ)) (held : List File) → AreNamed files names held → 0 < length names → 0 < length held
@@ -35,7 +35,7 @@ joined_some files names j h some = record { held = h.held; named = names_of file
     held-some files (n ∷ names) [] h some = absurd h
     held-some files (n ∷ names) (f ∷ held) h some = omega arith
 
-pub told_ends : (files : Option Files) (names : List (List ℕ)) (j : Joined) (items : List Item) (end : End Refusal) (out out' err err' : Option (List ℕ)) → AreJoined files names j
+pub told_ends : (files : Option Files) (names : List (List ℕ)) (j : Joined) (items : List Item) (end : End Refusal) (out out' err err' : Option (List ℕ)) → AreJoined plain_limit files names j
     → IsTold names j items end out out' err err' → CheckEnds files names items end out out' err err'
 unfolding CheckEnds IsEnd
 told_ends files names j items end out out' err err' h t =
@@ -56,7 +56,7 @@ front-valid items more h = by empty items h
     by ctx [] v = tt
     by ctx (x ∷ xs) (e, v) = (e, by (with_item ctx x) xs v)
 
-pub cut_stops : (files : Option Files) (names : List (List ℕ)) (j : Joined) (items : List Item) (out out' : Option (List ℕ)) → AreJoined files names j → IsCut j.text.items items out out'
+pub cut_stops : (files : Option Files) (names : List (List ℕ)) (j : Joined) (items : List Item) (out out' : Option (List ℕ)) → AreJoined plain_limit files names j → IsCut j.text.items items out out'
     → CheckStops files names items out out'
 unfolding CheckStops IsCut
 cut_stops files names j items out out' h (more, end, w, front) = (
@@ -70,21 +70,21 @@ cut_stops files names j items out out' h (more, end, w, front) = (
 )
 
 -- nothing came of it, or it was cut short
-pub front_told : {P : Type 0} (files : Option Files) (names : List (List ℕ)) (j : Joined) (items : List Item) (out out' : Option (List ℕ)) → AreJoined files names j → P ⊎ IsCut j.text.items items out out'
+pub front_told : {P : Type 0} (files : Option Files) (names : List (List ℕ)) (j : Joined) (items : List Item) (out out' : Option (List ℕ)) → AreJoined plain_limit files names j → P ⊎ IsCut j.text.items items out out'
     → P ⊎ CheckStops files names items out out'
 front_told files names j items out out' h (inl p) = inl p
 front_told files names j items out out' h (inr c) = inr (cut_stops files names j items out out' h c)
 
 -- ---- a text that is too long
 
-pub passed_ends : (files : Option Files) (names : List (List ℕ)) (n : ℕ) (name : List ℕ) (items : List Item) (out err err' : Option (List ℕ)) → IsPassed files names n → slice_get names n ≡ Some name
+pub passed_ends : (files : Option Files) (names : List (List ℕ)) (n : ℕ) (name : List ℕ) (items : List Item) (out err err' : Option (List ℕ)) → IsPassed plain_limit files names n → slice_get names n ≡ Some name
     → items ≡ [] → Grew err err' (name ++ codes ": TooLong\n") → CheckEnds files names items too_long out out err err'
 unfolding CheckEnds check_line summary_of
 passed_ends files names n name items out err err' h at none line =
     let same : Some name ≡ Some (first_past h.held plain_limit) = sym at ∙ h.name in
     let file : name ≡ first_past h.held plain_limit = cc same in (
       h.held,
-      h.read,
+      record { first = h.read.first; others = h.read.others; order = h.read.order; named = h.read.named; all = h.read.all },
       subst (λ (xs : List Item). Checks (joined_text h.held) xs too_long) (sym none) (check_too_long (joined_text h.held) h.long),
       subst (λ (xs : List Item). IsPlainTheory xs) (sym none) tt,
       subst (λ (xs : List Item). Grew out out (encode_utf8_all (summary_lines xs))) (sym none) (Grew-none out),

@@ -5,3 +5,4 @@ pub mod Joining
 pub mod Places
 pub mod Walked
 pub mod Endings
+pub mod Runs

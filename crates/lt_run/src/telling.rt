@@ -1,15 +1,11 @@
 //! What is told on the second sink, and the status of it.
 ghost use Rattle.std.specs.Prelude.{◌≡◌, ◌≤◌, ◌⊎◌, ◌++◌, List, codes};
-ghost use Rattle.lt_definitions.specs.Theory.{Refusal};
 ghost use Rattle.lt_texts.specs.Files.{File};
 ghost use Rattle.lt_io.specs.Causes.{Rose};
 ghost use Rattle.lt_io.specs.Written.{Grew};
-ghost use Rattle.lt_walks.specs.Walks.{End};
 ghost use Rattle.lt_walks.specs.Calls.{usage_line, read_fault_line};
-ghost use Rattle.lt_walks.specs.Outputs.{check_line};
-ghost use Rattle.lt_plain.specs.Telling.{TellsEnd};
 ghost use Rattle.lt_run.specs.Joining.{IsJoinedOf};
-ghost use Rattle.lt_run.specs.Places.{AreNames, IsJoinedOfSome};
+ghost use Rattle.lt_run.specs.Places.{AreNames, IsJoinedOfSome, placed_line};
 
 use crate::files::Joined;
 use crate::report::{read_fault_text, refusal_line, too_long_line};
@@ -74,9 +70,9 @@ pub(crate) fn tell_refusal<E: Sink>(
     err: &mut E,
 ) -> u8
     requires { IsJoinedOfSome names.now joined.now }
-    ensures line { result ≡ 1 → (held : List File) (end : End Refusal) → AreNames names.now held
-        → IsJoinedOf held joined.now → TellsEnd end placed.now
-        → Grew (E.written err.old) (E.written err.new) (check_line held end) }
+    ensures line { result ≡ 1 → (held : List File) → AreNames names.now held
+        → IsJoinedOf held joined.now
+        → Grew (E.written err.old) (E.written err.new) (placed_line held placed.now) }
     ensures write { result ≡ 4 → Rose (E.faults err.old) (E.faults err.new) }
     ensures later { E.faults err.old ≤ E.faults err.new }
     ensures status { (result ≡ 1) ⊎ (result ≡ 4) ⊎ (result ≡ 5) }

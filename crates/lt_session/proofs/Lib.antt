@@ -3,5 +3,6 @@ pub mod Takings
 pub mod Totals
 pub mod OnTheWay
 pub mod Steppings
+pub mod Showings
 pub mod Fronts
 pub mod Runnings
