@@ -3,10 +3,10 @@
 
 pub mod definition_laws;
 pub mod instance_laws;
-pub mod session_laws;
 mod instances;
 mod law_fault;
 mod registered;
+pub mod session_laws;
 mod statements;
 mod table;
 

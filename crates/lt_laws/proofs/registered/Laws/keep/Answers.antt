@@ -1,6 +1,10 @@
 use Rattle.std.proofs.Common.{◌∙◌, sym}
-use Rattle.lt_laws.proofs.RegisteringLemmas.{law-added}
+use Rattle.lt_laws.proofs.RegisteringLemmas.{law-added, law-there}
 use Rattle.lt_laws.proofs.registered.Laws.keep.Goals as goal
+
+pub returns-then-is_registered-clause-ok : goal.returns-then-is_registered-clause-ok
+returns-then-is_registered-clause-ok c =
+    law-there c.args.name.now c.args.label c.args.self.now (sym c.is_registered.ensures ∙ c.if-is_registered.true)
 
 pub returns-clause-ok : goal.returns-clause-ok
 returns-clause-ok c =
