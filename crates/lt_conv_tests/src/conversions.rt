@@ -30,13 +30,13 @@ pub fn gives<C: Conversion, S: TermStore>(
     proof: &mut Proof<S>,
     conversion: &C,
     term: &Term,
-    result: &Term,
+    wanted: &Term,
 ) -> Result<bool, Fail>
     requires { IsSound proof.old }
 {
     let t = put(alloc, proof, term)?;
     match conversion.convert(alloc, proof, t)? {
-        Some(line) => is_right(alloc, proof, line, result),
+        Some(line) => is_right(alloc, proof, line, wanted),
         None => Ok(false),
     }
 }
