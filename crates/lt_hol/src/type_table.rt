@@ -50,10 +50,11 @@ impl TypeTable {
     pub fn new(alloc: Global) -> Result<TypeTable, Memory>
         ensures { IfOk result (λ t. t ≡ []) }
     {
+        let recent = Vec::new(alloc);
         Ok(TypeTable {
             nodes: IndexSet::new(alloc),
             fun: Name::word(alloc, "fun")?,
-            recent: Vec::new(alloc),
+            recent,
         })
     }
 
