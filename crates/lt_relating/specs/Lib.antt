@@ -1,0 +1,6 @@
+-- The definitions, in the order in which they are read.
+pub mod TypedRelations
+pub mod RelatorLaws
+pub mod RelatedSteps
+pub mod Parts
+pub mod Plans

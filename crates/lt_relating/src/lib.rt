@@ -1,0 +1,4 @@
+//! Derivations along whole statements: a line that relates a statement to its image.
+#![tactic(auto)]
+
+pub mod laws;
