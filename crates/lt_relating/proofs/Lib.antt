@@ -1,1 +1,4 @@
 pub mod RelatedLemmas
+pub mod OpenedLemmas
+pub mod Assumptions
+pub mod PlanLemmas

@@ -9,7 +9,7 @@ use Rattle.lt_definitions.specs.Rules.{with_found}
 use Rattle.lt_definitions.specs.declared.reason.Reason.TheVariants.{MiddleDiffers, UnknownLabel}
 use Rattle.lt_definitions.proofs.SameNames.{true-name, type-refl}
 use Rattle.lt_definitions.proofs.RuleLemmas.{found-on, holds-on}
-use Rattle.lt_nameless.specs.Nameless.{Nameless, nameless_free, nameless_bound, nameless_constant, nameless_application, nameless_abstraction, NamelessSequent}
+use Rattle.lt_nameless.specs.Nameless.{Nameless, nameless_free, nameless_bound, nameless_loose, nameless_constant, nameless_application, nameless_abstraction, NamelessSequent}
 use Rattle.lt_nameless.specs.NamelessRules.{NamelessOutcome, nameless_type_of, nameless_has_type, nameless_has_free, nameless_implies, nameless_for_all, nameless_union, nameless_without, abstracted, discharged, generalised, detached}
 use Rattle.lt_nameless.proofs.NamelessClosings.{closed-same, closed-gone, closed-other}
 use Rattle.lt_programs.specs.Programs.{theorem, at_each, statement_at, named_at, paired}
@@ -19,7 +19,7 @@ use Rattle.lt_programs.proofs.TypedTermLemmas.{has, application-of, closed-of}
 use Rattle.lt_programs.proofs.ConnectiveLemmas.{detached-is}
 use Rattle.lt_relating.specs.TypedRelations.{TypedRelation, relation_type, related, rel_fun, relator_types, relating, has_no_free, IsRelation}
 use Rattle.lt_relating.specs.RelatorLaws.{relator_names, results_related, application_body, application_law, related_throughout, abstraction_body, abstraction_law}
-use Rattle.lt_relating.specs.RelatedSteps.{Laws, Binding, variables_related, closed, at_variable, expanded, closed_over_both, as_related, as_applied, applied_by, abstracted_by}
+use Rattle.lt_relating.specs.RelatedSteps.{Binding, variables_related, closed, at_variable, expanded, closed_over_both, as_related, as_applied, applied_by, abstracted_by}
 
 -- ---- what has a free variable
 
@@ -64,12 +64,12 @@ module _ (sig : Signature) (named : List (Chars × Nameless)) (label : Chars) (a
 abbrev pub applied_sequent : TypedRelation → Nameless → Nameless → Nameless → Nameless → NamelessSequent → NamelessSequent → NamelessSequent
 applied_sequent e f g x y s u = record { hyps = nameless_union (nameless_union [] s.hyps) u.hyps; concl = results_related e.term f g x y }
 
-module _ (sig : Signature) (laws : Laws) (r e : TypedRelation) (f g x y : Nameless) (s u : NamelessSequent)
+module _ (sig : Signature) (named : List (Chars × Nameless)) (label : Chars) (r e : TypedRelation) (f g x y : Nameless) (s u : NamelessSequent)
     (hr : IsRelation sig r) (he : IsRelation sig e)
     (hf : IsOfType sig f (relating r e).left) (hg : IsOfType sig g (relating r e).right) (hx : IsOfType sig x r.left) (hy : IsOfType sig y r.right) where
-  pub applied-gives : found laws.application laws.named ≡ Some application_law
+  pub applied-gives : found label named ≡ Some application_law
       → s.concl ≡ related (relating r e).term f g → u.concl ≡ related r.term x y
-      → applied_by sig laws s u ≡ Ok (applied_sequent e f g x y s u)
+      → applied_by sig named label s u ≡ Ok (applied_sequent e f g x y s u)
   applied-gives l es eu =
       let ts = relator_types r e in
       let terms = r.term ∷ e.term ∷ f ∷ g ∷ x ∷ y ∷ [] in
@@ -78,7 +78,7 @@ module _ (sig : Signature) (laws : Laws) (r e : TypedRelation) (f g x y : Namele
       let rest = nameless_implies (related r.term x y) (results_related e.term f g x y) in
       found-on MiddleDiffers (as_applied s.concl u.concl) (ts, terms) _ parts
       ∙ ap (λ o. with_ok o (λ law. with_ok (detached law s) (λ v. detached v u)))
-      (law-applied sig laws.named laws.application r.left r.right e.left e.right r.term e.term f g hr.typed he.typed hf hg x y l hx hy)
+      (law-applied sig named label r.left r.right e.left e.right r.term e.term f g hr.typed he.typed hf hg x y l hx hy)
       ∙ ap (λ o. with_ok o (λ v. detached v u)) (detached-is [] first rest s (sym es))
       ∙ detached-is (nameless_union [] s.hyps) (related r.term x y) (results_related e.term f g x y) u (sym eu)
 
@@ -96,8 +96,8 @@ module _ (x y : Chars) (a c : TypeTree) (r s f g : Nameless) (apart : same_name 
   closed-both =
       let other : (same_name y x && same_type c a) ≡ false = ap (λ v. v && same_type c a) apart in
       let stays : abstracted 0 y c (nameless_free x a) ≡ nameless_free x a = cond-false (same_name y x && same_type c a) _ _ other in
-      let goes : abstracted 0 y c (nameless_free y c) ≡ nameless_bound 0 = cond-true (same_name y y && same_type c c) _ _ (and_from (true-name y y refl) (type-refl c)) in
-      let out : abstracted 1 x a (nameless_free x a) ≡ nameless_bound 1 = cond-true (same_name x x && same_type a a) _ _ (and_from (true-name x x refl) (type-refl a)) in
+      let goes : abstracted 0 y c (nameless_free y c) ≡ nameless_bound 0 = cond-true (same_name y y && same_type c c) _ _ (and_from _ _ (true-name y y refl) (type-refl c)) in
+      let out : abstracted 1 x a (nameless_free x a) ≡ nameless_bound 1 = cond-true (same_name x x && same_type a a) _ _ (and_from _ _ (true-name x x refl) (type-refl a)) in
       (λ i. nameless_for_all a (nameless_abstraction a (abstracted 0 x a (nameless_for_all c (nameless_abstraction c
       (nameless_implies (related (closed-same 0 y c r yr i) (stays i) (goes i))
       (results_related (closed-same 0 y c s ys i) (closed-same 0 y c f yf i) (closed-same 0 y c g yg i) (stays i) (goes i))))))))
@@ -124,7 +124,7 @@ abstracted_sequent x y r e f g s = record {
   concl = related (relating r e).term (closed x r.left f) (closed y r.right g);
 }
 
-module _ (sig : Signature) (laws : Laws) (x y : Chars) (r e : TypedRelation) (f g : Nameless) (s : NamelessSequent)
+module _ (sig : Signature) (named : List (Chars × Nameless)) (label : Chars) (x y : Chars) (r e : TypedRelation) (f g : Nameless) (s : NamelessSequent)
     (hr : IsRelation sig r) (he : IsRelation sig e) (hf : IsOfType sig f e.left) (hg : IsOfType sig g e.right)
     (apart : same_name y x ≡ false) (yf : nameless_has_free y r.right f ≡ false) (xg : nameless_has_free x r.left g ≡ false)
     (xh : list_any (nameless_has_free x r.left) (left_hyps (binding x y r) s) ≡ false)
@@ -163,16 +163,16 @@ module _ (sig : Signature) (laws : Laws) (x y : Chars) (r e : TypedRelation) (f 
   types-are : (nameless_type_of sig f ≡ e.left) × (nameless_type_of sig g ≡ e.right)
   types-are = (ap (λ o. result_unwrap_or o bool) hf, ap (λ o. result_unwrap_or o bool) hg)
 
-  pub abstracted-gives : found laws.abstraction laws.named ≡ Some abstraction_law → s.concl ≡ related e.term f g
-      → abstracted_by sig laws here s ≡ Ok (abstracted_sequent x y r e f g s)
+  pub abstracted-gives : found label named ≡ Some abstraction_law → s.concl ≡ related e.term f g
+      → abstracted_by sig named label here s ≡ Ok (abstracted_sequent x y r e f g s)
   abstracted-gives l es =
       let terms = r.term ∷ e.term ∷ image ∷ given ∷ [] in
-      let Law : TypeTree → TypeTree → NamelessOutcome = λ v w. named_at sig laws.named laws.abstraction (paired relator_names (r.left ∷ r.right ∷ v ∷ w ∷ [])) terms in
+      let Law : TypeTree → TypeTree → NamelessOutcome = λ v w. named_at sig named label (paired relator_names (r.left ∷ r.right ∷ v ∷ w ∷ [])) terms in
       let parts : as_related s.concl ≡ Some (e.term, f, g) = ap as_related es in
       found-on MiddleDiffers (as_related s.concl) (e.term, f, g) _ parts
       ∙ ap (λ o. with_ok o (λ q. with_ok (Law (nameless_type_of sig f) (nameless_type_of sig g)) (λ law. detached law q))) premise-gives
       ∙ (λ i. with_ok (Law (types-are.0 i) (types-are.1 i)) (λ law. detached law premise))
       ∙ ap (λ o. with_ok o (λ law. detached law premise))
-      (law-abstracted sig laws.named laws.abstraction r.left r.right e.left e.right r.term e.term image given hr.typed he.typed
+      (law-abstracted sig named label r.left r.right e.left e.right r.term e.term image given hr.typed he.typed
       (closed-of sig x r.left f e.left hr.left hf) (closed-of sig y r.right g e.right hr.right hg) l)
       ∙ detached-is [] premise.concl (related (relating r e).term image given) premise refl

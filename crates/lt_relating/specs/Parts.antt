@@ -1,12 +1,19 @@
 -- A statement in post-order, each part with how it is related, and what a derivation along it gives.
 -- Source: this project's own.
 use Rattle.std.specs.Prelude.{ℕ, List, [], ◌∷◌, slice_get, drop, Ok, Err}
+use Rattle.lt_definitions.specs.Types.{Chars}
 use Rattle.lt_definitions.specs.Typing.{Signature, with_ok}
 use Rattle.lt_definitions.specs.Rules.{with_line, with_found}
 use Rattle.lt_definitions.specs.declared.reason.Reason.TheVariants.{MissingLine}
 use Rattle.lt_nameless.specs.Nameless.{Nameless, NamelessSequent}
 use Rattle.lt_nameless.specs.NamelessRules.{NamelessOutcome, nameless_assume_gives}
-use Rattle.lt_relating.specs.RelatedSteps.{Laws, Binding, applied_by, abstracted_by}
+use Rattle.lt_relating.specs.RelatedSteps.{Binding, applied_by, abstracted_by}
+
+-- Named statements, and the labels of the two laws among them.
+pub record Laws : Type 0 where
+  pub named : List (Chars × Nameless)
+  pub application : Chars
+  pub abstraction : Chars
 
 -- A constant, by the number of a line that relates it; a bound name, by the hypothesis that the
 -- variables of its binder are related; an application of the part before the last to the last; an
@@ -22,9 +29,9 @@ abbrev pub part_gives : Signature → Laws → List NamelessSequent → List Nam
     → NamelessOutcome
 part_gives sig laws done ss (by_line n) = with_line done n (λ s. Ok s)
 part_gives sig laws done ss (by_name p) = nameless_assume_gives sig p
-part_gives sig laws done (u ∷ s ∷ ss) by_application = applied_by sig laws s u
+part_gives sig laws done (u ∷ s ∷ ss) by_application = applied_by sig laws.named laws.application s u
 part_gives sig laws done _ by_application = Err MissingLine
-part_gives sig laws done (s ∷ ss) (by_abstraction b) = abstracted_by sig laws b s
+part_gives sig laws done (s ∷ ss) (by_abstraction b) = abstracted_by sig laws.named laws.abstraction b s
 part_gives sig laws done [] (by_abstraction b) = Err MissingLine
 
 -- how many of them it takes

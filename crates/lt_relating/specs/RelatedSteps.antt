@@ -11,12 +11,6 @@ use Rattle.lt_programs.specs.Programs.{named_at, paired}
 use Rattle.lt_relating.specs.TypedRelations.{related}
 use Rattle.lt_relating.specs.RelatorLaws.{relator_names}
 
--- named statements, and the labels of the two laws among them
-pub record Laws : Type 0 where
-  pub named : List (Chars × Nameless)
-  pub application : Chars
-  pub abstraction : Chars
-
 -- the relation and the two terms of R x y
 abbrev pub as_related : Nameless → Option (Nameless × Nameless × Nameless)
 as_related (nameless_application (nameless_application r x) y) = Some (r, x, y)
@@ -36,11 +30,12 @@ as_applied p q =
     option_map (λ ts. (ts, w.1 ∷ w.2 ∷ v.1 ∷ v.2 ∷ u.1 ∷ u.2 ∷ [])) (four_types w.0))
     (as_related q)) (as_related v.0)) (as_related p)
 
--- From H |- rel_fun R S f g and K |- R x y: H and K |- S (f x) (g y), by the law on that.
-abbrev pub applied_by : Signature → Laws → NamelessSequent → NamelessSequent → NamelessOutcome
-applied_by sig laws s u =
+-- From H |- rel_fun R S f g and K |- R x y: H and K |- S (f x) (g y), by the law of that label.
+abbrev pub applied_by : Signature → List (Chars × Nameless) → Chars → NamelessSequent
+    → NamelessSequent → NamelessOutcome
+applied_by sig named label s u =
     with_found MiddleDiffers (as_applied s.concl u.concl) (λ p.
-    with_ok (named_at sig laws.named laws.application (paired relator_names p.0) p.1) (λ law.
+    with_ok (named_at sig named label (paired relator_names p.0) p.1) (λ law.
     with_ok (detached law s) (λ v. detached v u)))
 
 -- What an abstraction is related by: its two variables, each with its type, and the relation.
@@ -77,12 +72,22 @@ closed_over_both sig b s =
     with_ok (discharged sig (variables_related b) s) (λ u.
     with_ok (generalised b.given b.right u) (generalised b.image b.left))
 
--- From H |- S f g: H without R x y |- rel_fun R S (\x. f) (\y. g), by the law on that.
-abbrev pub abstracted_by : Signature → Laws → Binding → NamelessSequent → NamelessOutcome
-abstracted_by sig laws b s =
+-- the type arguments of rel_fun R S, where S f g
+abbrev pub abstraction_types : Signature → Binding → Nameless → Nameless → List TypeTree
+abstraction_types sig b f g =
+    b.left ∷ b.right ∷ nameless_type_of sig f ∷ nameless_type_of sig g ∷ []
+
+-- R, S, \x. f and \y. g
+abbrev pub abstraction_terms : Binding → Nameless → Nameless → Nameless → List Nameless
+abstraction_terms b s f g =
+    b.relation ∷ s ∷ closed b.image b.left f ∷ closed b.given b.right g ∷ []
+
+-- From H |- S f g: H without R x y |- rel_fun R S (\x. f) (\y. g), by the law of that label.
+abbrev pub abstracted_by : Signature → List (Chars × Nameless) → Chars → Binding → NamelessSequent
+    → NamelessOutcome
+abstracted_by sig named label b s =
     with_found MiddleDiffers (as_related s.concl) (λ p.
     with_ok (closed_over_both sig b (expanded b p.0 p.1 p.2 s.hyps)) (λ premise.
-    with_ok (named_at sig laws.named laws.abstraction (paired relator_names
-    (b.left ∷ b.right ∷ nameless_type_of sig p.1 ∷ nameless_type_of sig p.2 ∷ []))
-    (b.relation ∷ p.0 ∷ closed b.image b.left p.1 ∷ closed b.given b.right p.2 ∷ [])) (λ law.
+    with_ok (named_at sig named label (paired relator_names (abstraction_types sig b p.1 p.2))
+    (abstraction_terms b p.0 p.1 p.2)) (λ law.
     detached law premise)))
