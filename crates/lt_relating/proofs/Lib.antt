@@ -1,4 +1,5 @@
 pub mod RelatedLemmas
+pub mod RelatorLemmas
 pub mod OpenedLemmas
 pub mod Assumptions
 pub mod PlanLemmas

@@ -9,18 +9,20 @@ use Rattle.lt_definitions.specs.declared.reason.Reason.TheVariants.{MissingLine,
 use Rattle.lt_definitions.proofs.RuleLemmas.{found-on, holds-on}
 use Rattle.lt_nameless.specs.Nameless.{Nameless, nameless_free, nameless_bound, nameless_application, nameless_abstraction, NamelessSequent}
 use Rattle.lt_nameless.specs.NamelessRules.{NamelessOutcome, nameless_gives, nameless_has_type, nameless_union}
+use Rattle.lt_nameless.specs.Booleans.{IsSoundSignature}
 use Rattle.lt_nameless.proofs.ClosedSteps.{typed-whole}
 use Rattle.lt_programs.specs.Programs.{theorem}
 use Rattle.lt_programs.specs.TypedTerms.{IsOfType}
 use Rattle.lt_programs.specs.Openings.{filled}
 use Rattle.lt_programs.proofs.Filled.{filled-whole, filled-none}
 use Rattle.lt_programs.proofs.TypedTermLemmas.{has, application-of, closed-of}
-use Rattle.lt_relating.specs.TypedRelations.{TypedRelation, related, relating, has_no_free, IsRelation}
+use Rattle.lt_relating.specs.TypedRelations.{TypedRelation, related, relating, has_no_free, HasRelator, IsRelation}
 use Rattle.lt_relating.specs.RelatorLaws.{application_law, abstraction_law}
 use Rattle.lt_relating.specs.RelatedSteps.{variables_related, closed}
 use Rattle.lt_relating.specs.Parts.{Laws, Part, by_line, by_name, by_application, by_abstraction, part_gives, walked}
 use Rattle.lt_relating.specs.Plans.{Plan, planned_line, planned_name, planned_application, planned_abstraction, image_of, given_of, Relates, image_name, given_name, binding_at, parts_of}
 use Rattle.lt_relating.proofs.RelatedLemmas.{variable-of, related-of, applied_sequent, applied-gives, binding, left_hyps, abstracted_sequent, abstracted-gives}
+use Rattle.lt_relating.proofs.RelatorLemmas.{relating-is, relating-parts}
 use Rattle.lt_relating.proofs.OpenedLemmas.{variables, variable-at, body-closed, filled-lacks, lack-given, lack-image}
 use Rattle.lt_relating.proofs.Assumptions.{Among, AllAmong, union-among, without-among, among-none, assumptions, assumed-among, AreRelations, relation-at, all-image-absent, all-given-absent}
 
@@ -33,26 +35,27 @@ opened_given env t = filled (variables 121 (λ r. r.right) env) 0 (given_of t)
 
 -- The sequent relates both, under hypotheses of the binders around them alone.
 pub record Tells (sig : Signature) (env : List TypedRelation) (t : Plan) (e : TypedRelation) (s : NamelessSequent) : Type 0 where
+  pub relation : IsRelation sig e
   pub hyps : AllAmong s.hyps (assumptions env)
   pub concl : s.concl ≡ related e.term (opened_image env t) (opened_given env t)
   pub image : IsOfType sig (opened_image env t) e.left
   pub given : IsOfType sig (opened_given env t) e.right
 
-module _ (sig : Signature) (laws : Laws) (done : List NamelessSequent)
+module _ (sig : Signature) (laws : Laws) (done : List NamelessSequent) (sound : IsSoundSignature sig) (relator : HasRelator sig)
     (app : found laws.application laws.named ≡ Some application_law) (abs : found laws.abstraction laws.named ≡ Some abstraction_law) where
   image-closed : (env : List TypedRelation) (t : Plan) (e : TypedRelation) → Relates sig done env t e → has_no_free (image_of t) ≡ true
   image-closed env (planned_line n s u) e h = h.image_closed
   image-closed env (planned_name i r) e h = refl
   image-closed env (planned_application f a) e h =
-      and_from (has_no_free (image_of f)) (has_no_free (image_of a)) (image-closed env f (relating h.0 e) h.4) (image-closed env a h.0 h.3)
-  image-closed env (planned_abstraction r b) e h = image-closed (r ∷ env) b h.0 h.4
+      and_from (has_no_free (image_of f)) (has_no_free (image_of a)) (image-closed env f (relating h.0 e) h.2) (image-closed env a h.0 h.1)
+  image-closed env (planned_abstraction r b) e h = image-closed (r ∷ env) b h.0 h.3
 
   given-closed : (env : List TypedRelation) (t : Plan) (e : TypedRelation) → Relates sig done env t e → has_no_free (given_of t) ≡ true
   given-closed env (planned_line n s u) e h = h.given_closed
   given-closed env (planned_name i r) e h = refl
   given-closed env (planned_application f a) e h =
-      and_from (has_no_free (given_of f)) (has_no_free (given_of a)) (given-closed env f (relating h.0 e) h.4) (given-closed env a h.0 h.3)
-  given-closed env (planned_abstraction r b) e h = given-closed (r ∷ env) b h.0 h.4
+      and_from (has_no_free (given_of f)) (has_no_free (given_of a)) (given-closed env f (relating h.0 e) h.2) (given-closed env a h.0 h.1)
+  given-closed env (planned_abstraction r b) e h = given-closed (r ∷ env) b h.0 h.3
 
   -- a sequent that tells, and that the parts give it, whatever stands before and behind them
   abbrev Told : List TypedRelation → Plan → TypedRelation → Type 0
@@ -69,6 +72,7 @@ module _ (sig : Signature) (laws : Laws) (done : List NamelessSequent)
       let right : opened_given env (planned_line n s u) ≡ u = filled-whole (variables 121 (λ r. r.right) env) 0 0 u (omega arith) (typed-whole sig [] u e.right h.given) in (
         theorem (related e.term s u),
         record {
+          relation = h.relation;
           hyps = tt;
           concl = λ i. related e.term (sym left i) (sym right i);
           image = subst (λ t. IsOfType sig t e.left) (sym left) h.image;
@@ -91,6 +95,7 @@ module _ (sig : Signature) (laws : Laws) (done : List NamelessSequent)
       let boolean : nameless_has_type sig p bool ≡ true = has sig p bool (related-of sig r x y one hx hy) in
       let s : NamelessSequent = record { hyps = p ∷ []; concl = p } in
       let told : Tells sig env (planned_name i r) r s = record {
+        relation = one;
         hyps = (assumed-among env i r h.0, tt);
         concl = λ v. related r.term (sym left v) (sym right v);
         image = subst (λ t. IsOfType sig t r.left) (sym left) hx;
@@ -101,12 +106,16 @@ module _ (sig : Signature) (laws : Laws) (done : List NamelessSequent)
         λ ss rest. ap (λ o. with_ok o (onward ss rest)) (holds-on (nameless_has_type sig p bool) NotBool (nameless_gives (p ∷ []) p) boolean),
       )
 
-  application-told : (env : List TypedRelation) (f a : Plan) (r e : TypedRelation) → IsRelation sig r → IsRelation sig e
+  application-told : (env : List TypedRelation) (f a : Plan) (r e : TypedRelation)
       → Told env a r → Told env f (relating r e) → Told env (planned_application f a) e
-  application-told env f a r e hr he (u, ta, wa) (s, tf, wf) =
+  application-told env f a r e (u, ta, wa) (s, tf, wf) =
+      let both = relating-parts sig relator r e tf.relation in
+      let hr = both.0 in
+      let he = both.1 in
       let q = applied_sequent e (opened_image env f) (opened_given env f) (opened_image env a) (opened_given env a) s u in (
         q,
         record {
+          relation = he;
           hyps = union-among (nameless_union [] s.hyps) u.hyps (assumptions env) (union-among [] s.hyps (assumptions env) tt tf.hyps) ta.hyps;
           concl = refl;
           image = application-of sig (opened_image env f) (opened_image env a) r.left e.left tf.image ta.image;
@@ -122,9 +131,10 @@ module _ (sig : Signature) (laws : Laws) (done : List NamelessSequent)
             (applied-gives sig laws.named laws.application r e (opened_image env f) (opened_given env f) (opened_image env a) (opened_given env a) s u hr he tf.image tf.given ta.image ta.given app tf.concl ta.concl),
       )
 
-  abstraction-told : (env : List TypedRelation) (r e : TypedRelation) (b : Plan) → IsRelation sig r → IsRelation sig e → AreRelations sig env
+  abstraction-told : (env : List TypedRelation) (r e : TypedRelation) (b : Plan) → IsRelation sig r → AreRelations sig env
       → has_no_free (image_of b) ≡ true → has_no_free (given_of b) ≡ true → Told (r ∷ env) b e → Told env (planned_abstraction r b) (relating r e)
-  abstraction-told env r e b hr he rs ci cg (s, tb, wb) =
+  abstraction-told env r e b hr rs ci cg (s, tb, wb) =
+      let he = tb.relation in
       let d = length env in
       let x = image_name d in
       let y = given_name d in
@@ -136,6 +146,7 @@ module _ (sig : Signature) (laws : Laws) (done : List NamelessSequent)
       let q = abstracted_sequent x y r e f g s in (
         q,
         record {
+          relation = relating-is sig relator r e sound hr he;
           hyps = union-among [] (left_hyps (binding x y r) s) (assumptions env) tt few;
           concl = λ i. related (relating r e).term (left i) (right i);
           image = subst (λ t. IsOfType sig t (fun r.left e.left)) left (closed-of sig x r.left f e.left hr.left tb.image);
@@ -157,10 +168,10 @@ module _ (sig : Signature) (laws : Laws) (done : List NamelessSequent)
   plan-told env (planned_line n s u) e rs h = line-told env n s u e h
   plan-told env (planned_name i r) e rs h = name-told env i r e rs h
   plan-told env (planned_application f a) e rs h =
-      application-told env f a h.0 e h.1 h.2 (plan-told env a h.0 rs h.3) (plan-told env f (relating h.0 e) rs h.4)
+      application-told env f a h.0 e (plan-told env a h.0 rs h.1) (plan-told env f (relating h.0 e) rs h.2)
   plan-told env (planned_abstraction r b) e rs h =
-      subst (λ (q : TypedRelation). Told env (planned_abstraction r b) q) (sym h.3)
-      (abstraction-told env r h.0 b h.1 h.2 rs (image-closed (r ∷ env) b h.0 h.4) (given-closed (r ∷ env) b h.0 h.4) (plan-told (r ∷ env) b h.0 (h.1, rs) h.4))
+      subst (λ (q : TypedRelation). Told env (planned_abstraction r b) q) (sym h.2)
+      (abstraction-told env r h.0 b h.1 rs (image-closed (r ∷ env) b h.0 h.3) (given-closed (r ∷ env) b h.0 h.3) (plan-told (r ∷ env) b h.0 (h.1, rs) h.3))
 
   -- at the root nothing is assumed, and the image and the statement themselves are related
   pub plan-walked : (t : Plan) (e : TypedRelation) → Relates sig done [] t e

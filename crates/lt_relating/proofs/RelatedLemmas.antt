@@ -148,7 +148,7 @@ module _ (sig : Signature) (named : List (Chars × Nameless)) (label : Chars) (x
       (none-free x r.left r.term hr.closed) (none-free x r.left e.term he.closed) (closed-gone 0 x r.left f) (closed-other 0 y x r.right r.left g xg)
       (none-free y r.right r.term hr.closed) (none-free y r.right e.term he.closed) (closed-other 0 x y r.left r.right f yf) (closed-gone 0 y r.right g)
 
-  premise-gives : closed_over_both sig here (expanded here e.term f g s.hyps) ≡ Ok premise
+  premise-gives : closed_over_both sig here (variables_related here) (expanded here e.term f g s.hyps) ≡ Ok premise
   premise-gives =
       let boolean : nameless_has_type sig (variables_related here) bool ≡ true =
       has sig (variables_related here) bool (related-of sig r (nameless_free x r.left) (nameless_free y r.right) hr (variable-of sig x r.left hr.left) (variable-of sig y r.right hr.right)) in

@@ -4,3 +4,5 @@ pub mod RelatorLaws
 pub mod RelatedSteps
 pub mod Parts
 pub mod Plans
+pub mod Rows
+pub mod Triples

@@ -52,11 +52,9 @@ abbrev pub Relates : Signature → List NamelessSequent → List TypedRelation �
 Relates sig done env (planned_line n s t) e = IsRelatedBy sig done n e s t
 Relates sig done env (planned_name i r) e = (slice_get env i ≡ Some r) × (e ≡ r)
 Relates sig done env (planned_application f a) e =
-    (r : TypedRelation) × IsRelation sig r × IsRelation sig e × Relates sig done env a r
-    × Relates sig done env f (relating r e)
+    (r : TypedRelation) × Relates sig done env a r × Relates sig done env f (relating r e)
 Relates sig done env (planned_abstraction r b) e =
-    (s : TypedRelation) × IsRelation sig r × IsRelation sig s × (e ≡ relating r s)
-    × Relates sig done (r ∷ env) b s
+    (s : TypedRelation) × IsRelation sig r × (e ≡ relating r s) × Relates sig done (r ∷ env) b s
 
 -- the names x, xx, xxx, .. and y, yy, yyy, .. of a binder's variables by its depth
 abbrev pub image_name : ℕ → Chars

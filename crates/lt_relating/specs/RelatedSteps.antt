@@ -66,10 +66,10 @@ expanded b s f g hs = record {
   concl = related s (at_variable b.image b.left f) (at_variable b.given b.right g);
 }
 
--- from that: H without R x y |- all x y. R x y --> S ((\x. f) x) ((\y. g) y)
-abbrev pub closed_over_both : Signature → Binding → NamelessSequent → NamelessOutcome
-closed_over_both sig b s =
-    with_ok (discharged sig (variables_related b) s) (λ u.
+-- from H |- q: H without p |- all x y. p --> q
+abbrev pub closed_over_both : Signature → Binding → Nameless → NamelessSequent → NamelessOutcome
+closed_over_both sig b p s =
+    with_ok (discharged sig p s) (λ u.
     with_ok (generalised b.given b.right u) (generalised b.image b.left))
 
 -- the type arguments of rel_fun R S, where S f g
@@ -87,7 +87,8 @@ abbrev pub abstracted_by : Signature → List (Chars × Nameless) → Chars → 
     → NamelessOutcome
 abstracted_by sig named label b s =
     with_found MiddleDiffers (as_related s.concl) (λ p.
-    with_ok (closed_over_both sig b (expanded b p.0 p.1 p.2 s.hyps)) (λ premise.
+    with_ok (closed_over_both sig b (variables_related b)
+    (expanded b p.0 p.1 p.2 s.hyps)) (λ premise.
     with_ok (named_at sig named label (paired relator_names (abstraction_types sig b p.1 p.2))
     (abstraction_terms b p.0 p.1 p.2)) (λ law.
     detached law premise)))

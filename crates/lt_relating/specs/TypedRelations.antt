@@ -1,7 +1,7 @@
 -- Relations with their types, and terms that are related.
 -- Source: Huffman and Kunčar.
 use Rattle.std.specs.Prelude.{◌≡◌, List, [], ◌∷◌, Bool, true, false, ◌&&◌, codes, None}
-use Rattle.lt_definitions.specs.Types.{Chars, found, TypeTree, type_variable, bool, fun}
+use Rattle.lt_definitions.specs.Types.{TypeTree, bool, fun}
 use Rattle.lt_definitions.specs.Typing.{Signature, type_fault}
 use Rattle.lt_nameless.specs.Nameless.{Nameless, nameless_free, nameless_bound, nameless_loose, nameless_constant, nameless_application, nameless_abstraction}
 use Rattle.lt_programs.specs.TypedTerms.{IsOfType}
@@ -35,6 +35,14 @@ relating r s = record {
   left = fun r.left s.left;
   right = fun r.right s.right;
 }
+
+-- The relator of functions takes two relations to a relation, at any types without a fault.
+abbrev pub HasRelator : Signature → Type 0
+HasRelator sig =
+    (a c b d : TypeTree) → type_fault sig a ≡ None → type_fault sig c ≡ None
+    → type_fault sig b ≡ None → type_fault sig d ≡ None
+    → IsOfType sig (nameless_constant (codes "rel_fun") (a ∷ c ∷ b ∷ d ∷ []))
+    (fun (relation_type a c) (fun (relation_type b d) (relation_type (fun a b) (fun c d))))
 
 -- whether a term has no free variable
 abbrev pub has_no_free : Nameless → Bool
