@@ -3,3 +3,9 @@ pub mod RelatorLemmas
 pub mod OpenedLemmas
 pub mod Assumptions
 pub mod PlanLemmas
+pub mod OutcomeSteps
+pub mod RelatedForms
+pub mod ApplyingLemmas
+pub mod ExpandingLemmas
+pub mod AbstractingLemmas
+pub mod ClosingLemmas

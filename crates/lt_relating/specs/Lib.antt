@@ -6,3 +6,5 @@ pub mod Parts
 pub mod Plans
 pub mod Rows
 pub mod Triples
+pub mod Pairs
+pub mod Expansions

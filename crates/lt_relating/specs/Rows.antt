@@ -21,8 +21,11 @@ int = type_constructor (codes "int") no_types
 abbrev pub row_signature : Signature
 row_signature = record {
   types = built_in.types ++ (codes "pairs", 0) ∷ (codes "int", 0) ∷ [];
-  consts = built_in.consts ++ (codes "rel_fun", fun (relation_type a c) (fun (relation_type b d)
-      (relation_type (fun a b) (fun c d)))) ∷ (codes "cr_int", relation_type pairs int)
+  consts = built_in.consts ++ (
+    codes "rel_fun",
+    fun (relation_type a c) (fun (relation_type b d)
+        (relation_type (fun a b) (fun c d))),
+  ) ∷ (codes "cr_int", relation_type pairs int)
       ∷ (codes "h", fun pairs bool) ∷ (codes "k", fun int bool) ∷ [];
 }
 

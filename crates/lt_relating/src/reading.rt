@@ -77,6 +77,11 @@ pub(crate) fn applied_parts<S: TermStore>(
 pub(crate) fn relator_names(alloc: Global) -> Result<Names, Memory>
     ensures { IfOk result (λ names. names ≡ relator_names) }
 {
-    let names = vec![in alloc; word(alloc, "a")?, word(alloc, "c")?, word(alloc, "b")?, word(alloc, "d")?]?;
+    let names = vec![in alloc;
+        word(alloc, "a")?,
+        word(alloc, "c")?,
+        word(alloc, "b")?,
+        word(alloc, "d")?,
+    ]?;
     Ok(Names::from_vec(names))
 }
