@@ -1,5 +1,4 @@
 //! A lemma whose line is there already.
-ghost use Rattle.std.specs.Prelude.{IfOk};
 ghost use Rattle.lt_extend.specs.Theories.{IsInStep};
 
 use lt_extend::{ItemFault, Theory};
@@ -19,14 +18,13 @@ fn name(alloc: Global) -> Result<Name, Memory> {
     Name::repeated(alloc, 'p', 0)
 }
 
-/// A theory in which the constant `p` is stated under its own name.
-fn begun(alloc: Global) -> Result<Theory<PlainStore>, ItemFault>
-    ensures { IfOk result (λ th. IsInStep th) }
+/// Declares the constant `p`, and states it under its own name.
+fn state(th: &mut Theory<PlainStore>, alloc: Global) -> Result<(), ItemFault>
+    requires { IsInStep th.old }
+    ensures { IsInStep th.new }
 {
-    let mut th = Theory::new(alloc, PlainStore::new(alloc))?;
     th.declare_const(alloc, name(alloc)?, Ty::bool(alloc)?)?;
-    th.add_axiom(alloc, name(alloc)?, constant(alloc)?)?;
-    Ok(th)
+    th.add_axiom(alloc, name(alloc)?, constant(alloc)?)
 }
 
 /// Derives a named statement.
@@ -59,10 +57,18 @@ fn derive_and_keep(th: &mut Theory<PlainStore>, alloc: Global) -> Result<(), Ite
     }
 }
 
+/// States `p`, derives it, and keeps it.
+fn state_and_keep(th: &mut Theory<PlainStore>, alloc: Global) -> Result<(), ItemFault>
+    requires { IsInStep th.old }
+{
+    state(th, alloc)?;
+    derive_and_keep(th, alloc)
+}
+
 /// How many items there are when `p` was kept.
 fn count_kept(alloc: Global) -> Result<usize, ItemFault> {
-    let mut th = begun(alloc)?;
-    derive_and_keep(&mut th, alloc)?;
+    let mut th = Theory::new(alloc, PlainStore::new(alloc))?;
+    state_and_keep(&mut th, alloc)?;
     Ok(th.items().len())
 }
 
