@@ -6,3 +6,10 @@ pub mod Moving
 pub mod Upwards
 pub mod Downwards
 pub mod Running
+pub mod EverywhereLemmas
+pub mod NewNames
+pub mod Visited
+pub mod Settled
+pub mod Placed
+pub mod Matched
+pub mod Unfolded

@@ -1,5 +1,5 @@
 -- Nodes of terms that are still to be counted.
-use Rattle.std.proofs.Common.{◌≡◌, ℕ, suc, ◌+◌, ◌<◌, ◌≤◌, List, [], ◌∷◌, ◌++◌, length, replicate, max, min, ◌-◌, Bool, true, if◌then◌else◌, nat_lt, inl, inr, false, ◌&&◌, ◌||◌, refl, sym, ap, ◌∙◌, subst, arith}
+use Rattle.std.proofs.Common.{◌≡◌, ℕ, suc, ◌+◌, ◌<◌, ◌≤◌, List, [], ◌∷◌, ◌++◌, length, replicate, max, min, ◌-◌, Option, None, Bool, true, if◌then◌else◌, nat_lt, inl, inr, false, ◌&&◌, ◌||◌, refl, sym, ap, ◌∙◌, subst, arith}
 use Rattle.std.proofs.lemmas.List.{length-replicate}
 use Rattle.std.proofs.lemmas.Bool.{cases_Bool, and_parts}
 use Rattle.lt_definitions.specs.Types.{Chars, same_name, TypeTree, same_type, type_nodes}
@@ -9,11 +9,12 @@ use Rattle.lt_definitions.proofs.SameNames.{name-true}
 use Rattle.lt_store.specs.declared.node.Node.{Node}
 use Rattle.lt_store.specs.declared.node.Node.TheVariants as node
 use Rattle.lt_store.specs.Trees.{tree_at, node_tree, IsBelow}
-use Rattle.lt_reductions.specs.Reducts.{nodes_over, IsShort}
+use Rattle.lt_store.specs.Passes.{longest_free}
+use Rattle.lt_reductions.specs.Reducts.{nodes, nodes_over, IsShort}
 use Rattle.lt_types.specs.Layout.{type_size}
 use Rattle.lt_terms.proofs.NodeCounts.{size-nodes}
 use Rattle.lt_reductions.proofs.Putting.{less-not}
-use Rattle.lt_conv.specs.Conversions.{node_length, node_count, variable_count}
+use Rattle.lt_conv.specs.Conversions.{node_length, node_count, variable_count, Counts}
 use Rattle.lt_derived.specs.NodeTypes.{child_ids}
 
 -- how many nodes these terms have together
@@ -174,3 +175,32 @@ one-type m k c whole t count size e =
 -- a free variable of the whole term
 pub not-long : (floor : ℕ) (x : Chars) (t : TypeTree) → length x ≤ floor → variable_count floor x t ≡ 1 + type_nodes t
 not-long floor x t l = ap (λ b. if b then 1 else 1 + type_nodes t) (less-not floor (length x) l)
+
+-- ---- what is known before a walk
+
+-- over the least floor there are no more nodes
+floor-least : (t : Nameless) → nodes_over 0 t ≤ nodes t
+floor-least (nameless_free x ty) = either (nat_lt 0 (length x))
+  where
+    either : (c : Bool) → (if c then 1 else 1 + type_nodes ty) ≤ 1 + type_nodes ty
+    either true = omega arith
+    either false = omega arith
+floor-least (nameless_bound i) = omega arith
+floor-least (nameless_loose x) = omega arith
+floor-least (nameless_constant c ts) = omega arith
+floor-least (nameless_application f a) = let h = floor-least f in let k = floor-least a in omega (arith, h, k)
+floor-least (nameless_abstraction ty b) = let h = floor-least b in omega (arith, h)
+
+pub many-nodes : (most : ℕ) (t : Nameless) (o : Option ℕ) → Counts most (nodes_over 0 t) o → o ≡ None → most < nodes t
+many-nodes most t o h e =
+    let k : most < nodes_over 0 t = subst (Counts most (nodes_over 0 t)) e h in
+    let l = floor-least t in omega (arith, k, l)
+
+-- the greatest length of a name, as a store knows it
+pub longest-short : (n : ℕ) (t : Nameless) → longest_free t ≤ n → IsShort n t
+longest-short n (nameless_free x ty) h = h
+longest-short n (nameless_bound i) h = tt
+longest-short n (nameless_loose x) h = tt
+longest-short n (nameless_constant c ts) h = tt
+longest-short n (nameless_application f a) h = (longest-short n f (omega (arith, h)), longest-short n a (omega (arith, h)))
+longest-short n (nameless_abstraction ty b) h = longest-short n b h

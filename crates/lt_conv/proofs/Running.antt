@@ -34,9 +34,12 @@ goes-on-runs whole t s m true e h = absurd (cc e)
 less : (a b : ℕ) → a < b → nat_lt a b ≡ true
 less a b h = grind (arith, nat_tests)
 
-pub starts-large : (floor : ℕ) (t : Nameless) → IsShort floor t → 65536 < nodes_over floor t → normal_form_of t ≡ Err 0
+pub is-large-at-once : (t : Nameless) → 65536 < nodes t → normal_form_of t ≡ Err 0
 unfolding normal_form_of
-starts-large floor t h l = is-large nodes 10000 65536 0 t (less 65536 (nodes t) (let e = short-nodes floor t h in omega (arith, e, l)))
+is-large-at-once t l = is-large nodes 10000 65536 0 t (less 65536 (nodes t) l)
+
+pub starts-large : (floor : ℕ) (t : Nameless) → IsShort floor t → 65536 < nodes_over floor t → normal_form_of t ≡ Err 0
+starts-large floor t h l = is-large-at-once t (let e = short-nodes floor t h in omega (arith, e, l))
 
 pub starts : (s : State) (t : Nameless) (floor line size : ℕ) (frames : List Frame) → IsShort floor t → Equates s line t t → size ≡ nodes_over floor t → size ≤ 65536 → frames ≡ []
     → (r : Runs (normal_form_of t) t s (record { frames = frames; line = line; down = true; floor = floor; steps = 0; size = size; room = 3 * size })) × HasRoom r

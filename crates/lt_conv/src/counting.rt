@@ -1,9 +1,9 @@
 //! How many nodes terms have.
-ghost use Rattle.std.specs.Prelude.{min, ◌^◌, ◌-◌, ◌≤◌, ◌+◌, ◌≡◌, ◌<◌, length, IfOk, None};
+ghost use Rattle.std.specs.Prelude.{min, ◌^◌, ◌-◌, ◌≤◌, ◌+◌, ◌≡◌, ◌<◌, length, IfOk, None, true};
 ghost use Rattle.lt_definitions.specs.Types.{types_nodes, row};
 ghost use Rattle.lt_store.specs.Trees.{tree_at};
 ghost use Rattle.lt_store.specs.Views.{node_of};
-ghost use Rattle.lt_reductions.specs.Reducts.{nodes_over};
+ghost use Rattle.lt_reductions.specs.Reducts.{nodes, nodes_over};
 ghost use Rattle.lt_conv.specs.declared.machine.ConvFault.TheVariants.{Memory};
 ghost use Rattle.lt_derived.specs.Equations.{IsEquation};
 ghost use Rattle.lt_conv.specs.Conversions.{node_count, variable_count, Counts};
@@ -74,6 +74,20 @@ pub(crate) fn count<S: TermStore>(
         push_children(&mut todo, view)?;
     }
     Ok(Some(seen))
+}
+
+/// Whether a term has more than 65,536 nodes, also where each free variable counts as one.
+///
+/// This comes before all that walks the term as a tree, which may have more than can be walked.
+pub(crate) fn is_too_large<S: TermStore>(alloc: Global, store: &S, t: Id) -> Result<bool, Memory>
+    requires { t < length (S.nodes store.now) }
+    ensures { IfOk result (λ yes. yes ≡ true → 65536 < nodes (tree_at (S.nodes store.now) t)) }
+{
+    let counted = count(alloc, store, t, 0, 65536)?;
+    match counted {
+        Some(_) => Ok(false),
+        None => Ok(true),
+    }
 }
 
 /// The number of nodes of a right side; None where there are more than `most`.

@@ -9,7 +9,7 @@ ghost use Rattle.lt_kernel.specs.Growing.{Carries};
 ghost use Rattle.lt_conv.specs.Machines.{spot, IsNearerOrEnded, IsRunning, IsLess, IsNoHead, Ends, gone, Goes, Leads};
 
 use crate::conversion::{is_lam, is_redex};
-use crate::counting::count;
+use crate::counting::{count, is_too_large};
 use crate::machine::{ConvFault, Frame, Machine};
 use crate::moves::{
     contract, enter_argument, enter_body, enter_head, join_head, leave_argument, leave_body,
@@ -112,6 +112,10 @@ pub fn normal_form<S: TermStore>(
     ensures carries { Carries proof.old proof.new }
     ensures ends { Ends proof.new (tree_at proof.old.nodes t) (normal_form_of (tree_at proof.old.nodes t)) result }
 {
+    let large = is_too_large(alloc, proof, t)?;
+    if large {
+        return Err(ConvFault::NormLimit(0));
+    }
     let floor = longest(alloc, proof, t)?;
     let Some(size) = count(alloc, proof, t, floor, 65536)? else {
         return Err(ConvFault::NormLimit(0));

@@ -28,10 +28,15 @@ fn name_length(view: View<'_>) -> usize
 }
 
 /// The greatest length of a free variable's name.
+///
+/// It walks the term as a tree where the store doesn't know.
 pub(crate) fn longest<S: TermStore>(alloc: Global, store: &S, t: Id) -> Result<usize, Memory>
     requires { t < length (S.nodes store.now) }
     ensures { IfOk result (λ n. IsShort n (tree_at (S.nodes store.now) t)) }
 {
+    if let Some(known) = store.bounds(t) {
+        return Ok(known.names);
+    }
     let mut todo: Vec<Id> = Vec::new(alloc);
     todo.push(t)?;
     let mut longest: usize = 0;

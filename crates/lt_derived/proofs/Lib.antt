@@ -7,3 +7,6 @@ pub mod TabledLemmas
 pub mod UnfoldingLemmas
 pub mod ConnectiveSteps
 pub mod ExistenceSteps
+pub mod FunctionSteps
+pub mod SideSteps
+pub mod DerivedSound

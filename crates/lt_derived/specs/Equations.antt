@@ -1,10 +1,11 @@
 -- Lines that equate terms.
 -- Source: this project's own.
-use Rattle.std.specs.Prelude.{◌≡◌, ℕ, ◌<◌, List, length, Some, None}
+use Rattle.std.specs.Prelude.{◌≡◌, ℕ, ◌<◌, List, length, Option, Some, None}
 use Rattle.lt_definitions.specs.Types.{TypeTree}
+use Rattle.lt_definitions.specs.Typing.{Signature}
 use Rattle.lt_definitions.specs.Rules.{line_at}
 use Rattle.lt_nameless.specs.Nameless.{Nameless, nameless_application}
-use Rattle.lt_nameless.specs.NamelessRules.{nameless_equation, nameless_fault}
+use Rattle.lt_nameless.specs.NamelessRules.{nameless_equation, nameless_eta, nameless_fault, nameless_type_of}
 use Rattle.lt_store.specs.Trees.{tree_at}
 use Rattle.lt_kernel.specs.State.{State, sequents}
 use Rattle.lt_programs.specs.Programs.{theorem}
@@ -55,3 +56,18 @@ pub record OfApplication (s : State) (i : ℕ) : Type 0 where
   pub t : Nameless
   pub line : line_at (sequents s) i
       ≡ Some (record { hyps = hyps; concl = nameless_equation ty left (nameless_application f t) })
+
+-- A line that equates terms, under hypotheses.
+pub record IsEquationUnder (s : State) (i : ℕ) : Type 0 where
+  pub hyps : List Nameless
+  pub ty : TypeTree
+  pub left : Nameless
+  pub right : Nameless
+  pub line : line_at (sequents s) i
+      ≡ Some (record { hyps = hyps; concl = nameless_equation ty left right })
+
+-- The line is |- t = f, where t is \x. f x; there is none where t isn't such a term.
+abbrev pub Contracts : State → Signature → Nameless → Option ℕ → Type 0
+Contracts s sig t (Some n) = (f : Nameless) × (nameless_eta t ≡ Some f)
+    × (line_at (sequents s) n ≡ Some (theorem (nameless_equation (nameless_type_of sig t) t f)))
+Contracts s sig t None = nameless_eta t ≡ None

@@ -4,6 +4,7 @@
 mod adding;
 mod checking;
 mod flattening;
+pub mod laws;
 mod placing;
 mod printing;
 mod refusal;

@@ -24,7 +24,7 @@ use Rattle.lt_nameless.proofs.SameForms.{same-is, same-refl}
 use Rattle.lt_programs.specs.Programs.{theorem, at_each, detached_by}
 use Rattle.lt_programs.specs.Openings.{HaveTypes}
 use Rattle.lt_programs.specs.TypedTerms.{IsOfType}
-use Rattle.lt_programs.specs.Connectives.{conjunction, existence, chosen, conjunction_law, left_law, right_law, existence_law, choice_law, both_give, is_stated, ex_definition, exists_at}
+use Rattle.lt_programs.specs.Connectives.{conjunction, as_conjunction, existence, as_existence, chosen, conjunction_law, left_law, right_law, existence_law, choice_law, both_give, is_stated, ex_definition, exists_at}
 use Rattle.lt_programs.proofs.Filled.{at-each-filled}
 use Rattle.lt_programs.proofs.TypedTermLemmas.{has}
 
@@ -86,6 +86,21 @@ choice-at sig ty p hp =
     at-each-filled sig (fun ty bool ∷ []) (p ∷ [])
     (nameless_implies (existence ty (nameless_bound 0)) (nameless_application (nameless_bound 0) (chosen ty (nameless_bound 0))))
     (has sig p (fun ty bool) hp, tt)
+
+-- what has the sides of a conjunction is one, and likewise for an existence
+pub conjunction-is : (t : Nameless) (e : Nameless × Nameless) → as_conjunction t ≡ Some e → t ≡ conjunction e.0 e.1
+conjunction-is (nameless_application (nameless_application (nameless_constant c []) p) q) e h =
+    let k = some-if (same_name c (codes "and")) (p, q) e h in
+    let name : c ≡ codes "and" = name-true c (codes "and") k.0 in
+    λ i. nameless_application (nameless_application (nameless_constant (name i) []) (k.1 i).0) (k.1 i).1
+conjunction-is t e h = absurd (cc h)
+
+pub existence-is : (t : Nameless) (e : TypeTree × Nameless) → as_existence t ≡ Some e → t ≡ existence e.0 e.1
+existence-is (nameless_application (nameless_constant c (ty ∷ [])) p) e h =
+    let k = some-if (same_name c (codes "ex")) (ty, p) e h in
+    let name : c ≡ codes "ex" = name-true c (codes "ex") k.0 in
+    λ i. nameless_application (nameless_constant (name i) ((k.1 i).0 ∷ [])) (k.1 i).1
+existence-is t e h = absurd (cc h)
 
 -- ---- existence
 

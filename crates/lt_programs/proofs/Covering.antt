@@ -96,7 +96,7 @@ module _ (small sig : Signature) (h : Covers small sig) where
   rule-covers (by_thm l) e = refl
 
   -- a rule gives the same over both
-  step-covers : (done : List NamelessSequent) (r : Rule Nameless) → rule_fault small (nameless_fault small) r ≡ None → nameless_step sig [] done r ≡ nameless_step small [] done r
+  pub step-covers : (done : List NamelessSequent) (r : Rule Nameless) → rule_fault small (nameless_fault small) r ≡ None → nameless_step sig [] done r ≡ nameless_step small [] done r
   step-covers done (by_assume p) e = ap (λ t. where_holds (is_of_type bool t) NotBool (nameless_gives (p ∷ []) p)) (same-typed p e)
   step-covers done (by_weaken p i) e =
       ap (λ t. with_line done i (λ s. where_holds (is_of_type bool t) NotBool (nameless_gives (nameless_union s.hyps (p ∷ [])) s.concl))) (same-typed p e)

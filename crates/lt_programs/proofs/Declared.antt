@@ -4,14 +4,14 @@ use Rattle.std.specs.List.{All, zip}
 use Rattle.std.proofs.lemmas.Option.{same_Some, none-some}
 use Rattle.std.proofs.lemmas.Bool.{cases_Bool, cond-true, cond-false, true≢false}
 use Rattle.lt_definitions.specs.Types.{Chars, same_name, found, TypeTree, TypeTrees, type_variable, type_constructor, no_types, type_and, bool, fun, row, type_instance, type_variables}
-use Rattle.lt_definitions.specs.Typing.{Signature, built_in, Fault, type_args, type_fault, types_fault, unless, at_types, constant_type}
+use Rattle.lt_definitions.specs.Typing.{Signature, built_in, Fault, earlier, type_args, type_fault, types_fault, unless, at_types, constant_type}
 use Rattle.lt_definitions.proofs.SameNames.{name-true, true-name}
 use Rattle.lt_nameless.specs.Booleans.{IsSoundSignature}
 use Rattle.lt_nameless.specs.Nameless.{Nameless, nameless_constant, nameless_application}
 use Rattle.lt_nameless.specs.NamelessRules.{nameless_typed, IsBooleanNameless, nameless_equation}
 use Rattle.lt_nameless.proofs.SameForms.{number-true, number-same}
 use Rattle.lt_programs.specs.TypedTerms.{IsOfType}
-use Rattle.lt_programs.specs.Connectives.{and_constant, and_body, and_definition, any_type, ex_constant, ex_body, ex_definition}
+use Rattle.lt_programs.specs.Connectives.{and_constant, and_body, and_definition, conjunction, any_type, ex_constant, ex_body, ex_definition, existence}
 use Rattle.lt_programs.proofs.Sequential.{none-type}
 use Rattle.lt_programs.proofs.TypedTermLemmas.{application-parts, ok-same}
 use Rattle.lt_programs.proofs.Covering.{Covers, type-covers, types-covers}
@@ -196,3 +196,39 @@ ex-alike sig s b =
     one v [] h = absurd (omega (arith, h))
     one v (t ∷ []) h = ap (λ o. over_predicates (unwrap_or o (type_variable v))) (cond-true (same_name v v) (Some t) None (true-name v v refl))
     one v (t ∷ u ∷ ts) h = absurd (omega (arith, h))
+
+-- ---- the parts of conjunctions and existences
+
+-- the sides of a boolean conjunction are boolean
+pub sides-boolean : (sig : Signature) → IsSoundSignature sig → IsBooleanNameless sig and_definition → (p q : Nameless) → IsBooleanNameless sig (conjunction p q)
+    → IsBooleanNameless sig p × IsBooleanNameless sig q
+sides-boolean sig s b p q h =
+    let outer = application-parts sig (nameless_application and_constant p) q bool h in
+    let inner = application-parts sig and_constant p (fun outer.0 bool) outer.1 in
+    let same = ok-same (fun inner.0 (fun outer.0 bool)) (fun bool (fun bool bool)) (nameless_typed sig [] and_constant) inner.1
+    (left-typed sig (fun bool (fun bool bool)) and_constant and_body s b) in
+    (inner.2 ∙ ap (λ (t : TypeTree). Ok t) (first inner.0 outer.0 same), outer.2 ∙ ap (λ (t : TypeTree). Ok t) (second inner.0 outer.0 same))
+  where
+    first : (u v : TypeTree) → fun u (fun v bool) ≡ fun bool (fun bool bool) → u ≡ bool
+    first u v e = cc e
+
+    second : (u v : TypeTree) → fun u (fun v bool) ≡ fun bool (fun bool bool) → v ≡ bool
+    second u v e = cc e
+
+-- the predicate of a boolean existence is one over its type, which has no fault
+pub predicate-typed : (sig : Signature) → IsSoundSignature sig → IsBooleanNameless sig ex_definition → (ty : TypeTree) (p : Nameless) → IsBooleanNameless sig (existence ty p)
+    → (type_fault sig ty ≡ None) × IsOfType sig p (fun ty bool)
+predicate-typed sig s b ty p h =
+    let parts = application-parts sig (ex_constant ty) p bool h in
+    let g = given-of sig (codes "ex") (ty ∷ []) (fun parts.0 bool) parts.1 in
+    let a = ex-alike sig s b in
+    let declared : g.declared ≡ a.declared = same_Some g.declared a.declared (sym g.is ∙ a.is) in
+    let same : over_predicates ty ≡ fun parts.0 bool = sym (a.gives (ty ∷ []) refl) ∙ ap (λ d. at_types d (ty ∷ [])) (sym declared) ∙ g.gives in
+    (only (type_fault sig ty) g.sound, parts.2 ∙ ap (λ (t : TypeTree). Ok t) (sym (over ty parts.0 same)))
+  where
+    only : (o : Option Fault) → earlier o None ≡ None → o ≡ None
+    only None e = refl
+    only (Some f) e = absurd (none-some f (sym e))
+
+    over : (t u : TypeTree) → over_predicates t ≡ fun u bool → fun t bool ≡ u
+    over t u e = cc e

@@ -7,3 +7,4 @@ pub mod Declared
 pub mod Unions
 pub mod ConnectiveLemmas
 pub mod DerivationLemmas
+pub mod ExtensionalityLemmas

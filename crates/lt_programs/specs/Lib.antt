@@ -3,5 +3,6 @@ pub mod Programs
 pub mod Openings
 pub mod Connectives
 pub mod Derivations
+pub mod Extensionality
 pub mod TypeLengths
 pub mod TypedTerms

@@ -5,5 +5,5 @@ pub mod Summaries
 pub mod Walking
 pub mod Told
 pub mod Lines
-pub mod WordLists
+pub mod Asking
 pub mod Statuses

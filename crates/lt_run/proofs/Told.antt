@@ -11,14 +11,16 @@ use Rattle.lt_io.specs.Written.{Grew, GrewByFront}
 use Rattle.lt_walks.specs.Walks.{End, accepted, too_long}
 use Rattle.lt_walks.specs.PlainWalks.{ChecksText, Checks}
 use Rattle.lt_walks.specs.Outputs.{summary_of, check_line}
-use Rattle.lt_walks.specs.Calls.{AreCheckWords, AreNamed, AreRead, CheckEnds, CheckStops}
-use Rattle.lt_run.specs.Words.{AreWords}
+use Rattle.lt_walks.specs.Calls.{AreNamed, AreRead, CheckEnds, CheckStops}
+use Rattle.lt_words.specs.Calls.{Call}
+use Rattle.lt_run.specs.Words.{AreWords, AskFor, AskForText}
 use Rattle.lt_walks.proofs.PlainWalkLemmas.{check_within, check_too_long, check_parts, texts_accept, checks_accept, one_check, accepted_exactly}
 use Rattle.lt_run.specs.declared.files.Joined.{Joined}
 use Rattle.lt_run.specs.Joining.{AreIn, KeepsTold, HoldsAll, IsJoinedOf, AreJoined, IsPassed}
 use Rattle.lt_run.specs.Places.{AreNames, IsJoinedOfSome}
 use Rattle.lt_run.specs.Walked.{IsCut, IsEnd}
 use Rattle.lt_run.specs.Endings.{IsTold}
+use Rattle.lt_run.proofs.Asking.{check_writes_none, one_list_of_files}
 use Rattle.lt_run.proofs.Fronts.{Grew-none, front_all}
 use Rattle.lt_run.proofs.Joins.{names_of, joined_parts}
 
@@ -147,18 +149,12 @@ one_read (Some before) (Some now) names held read same keeps (told, e, h) r = by
         ap (λ (z : List File). length (joined_text z)) rest.1 ∙ ap length (joined_parts read rest.0) ∙ length-append (joined_text read) (joined_text rest.0) in
         inr (long, omega (arith, long, size))
 
-same-check : (words : List (List ℕ)) (names others : List (List ℕ)) → AreCheckWords words names → AreCheckWords words others → names ≡ others
-same-check words names others (f, fs, e, k) (g, gs, d, l) = cc (sym k ∙ l)
-
-same-words : (words : List (List ℕ)) (names others : List (List ℕ)) → AreWords words names → AreWords words others → names ≡ others
-same-words words names others h k = same-check words names others h.check k.check
-
 one_end : (files now : Option Files) (words : List (List ℕ)) (names others : List (List ℕ)) (held : List File) (items found : List Item) (end last : End Refusal) (out out' err err' : Option (List ℕ))
     → StaysSame files now → ((ns : List (List ℕ)) → AreWords words ns → KeepsTold files now ns) → AreWords words names → HoldsAll files names held → Checks (joined_text held) items end
     → AreWords words others → CheckEnds now others found last out out' err err' → (found ≡ items) × (last ≡ end)
 unfolding CheckEnds
 one_end files now words names others held items found end last out out' err err' same told are has walk are' (read, r, w, v, p, q) =
-    let named : others ≡ names = same-words words others names are' are in
+    let named : others ≡ names = one_list_of_files words others names are' are in
     by (one_read files now names held read same (told names are) has (subst (λ (z : List (List ℕ)). AreRead now z read) named r))
   where
     by : (read ≡ held) ⊎ ((plain_limit < length (joined_text read)) × (plain_limit < length (joined_text held))) → (found ≡ items) × (last ≡ end)
@@ -169,43 +165,60 @@ one_end files now words names others held items found end last out out' err err'
         (here.0 ∙ sym there.0, here.1 ∙ sym there.1)
 
 -- The status of a call over what never fails, and its items, by how the walk through the files ends.
-pub accepts_valid : (status : ℕ) (files now : Option Files) (words names : List (List ℕ)) (held : List File) (items found : List Item) (out out' err err' : Option (List ℕ))
+pub accepts_valid : {P : List ℕ → Type 0} (status : ℕ) (files now : Option Files) (words names : List (List ℕ)) (held : List File) (items found : List Item) (out out' err err' : Option (List ℕ))
     → StaysSame files now → ((ns : List (List ℕ)) → AreWords words ns → KeepsTold files now ns) → AreWords words names → HoldsAll files names held → Checks (joined_text held) items accepted
     → (status ≡ 0) ⊎ (status ≡ 1) ⊎ (status ≡ 2) ⊎ (status ≡ 5)
-    → (status ≡ 0 → (ns : List (List ℕ)) × AreWords words ns × CheckEnds now ns found accepted out out' err err')
+    → (status ≡ 0 → ((ns : List (List ℕ)) × AreWords words ns × CheckEnds now ns found accepted out out' err err')
+    ⊎ ((text : List ℕ) × AskForText words text × P text))
     → (status ≡ 1 → (ns : List (List ℕ)) × (end : End Refusal) × AreWords words ns × (end ≢ accepted) × CheckEnds now ns found end out out' err err')
-    → (status ≡ 2 → (ns : List (List ℕ)) → AreWords words ns → ⊥)
+    → (status ≡ 2 → (call : Call) → AskFor words call → ⊥)
     → ((status ≡ 0) × (found ≡ items)) ⊎ (status ≡ 5)
-accepts_valid status files now words names held items found out out' err err' same told are has walk (inl zero') good bad other =
-    let g = good zero' in
-    inl (zero', (one_end files now words names g.0 held items found accepted accepted out out' err err' same told are has walk g.1 g.2).0)
+accepts_valid {P = P} status files now words names held items found out out' err err' same told are has walk (inl zero') good bad other = by (good zero')
+  where
+    by : ((ns : List (List ℕ)) × AreWords words ns × CheckEnds now ns found accepted out out' err err') ⊎ ((text : List ℕ) × AskForText words text × P text)
+        → ((status ≡ 0) × (found ≡ items)) ⊎ (status ≡ 5)
+    by (inl g) = inl (zero', (one_end files now words names g.0 held items found accepted accepted out out' err err' same told are has walk g.1 g.2).0)
+    by (inr t) = absurd (check_writes_none words names t.0 are t.1)
 accepts_valid status files now words names held items found out out' err err' same told are has walk (inr (inl one)) good bad other =
     let b = bad one in
     absurd (b.3 (one_end files now words names b.0 held items found accepted b.1 out out' err err' same told are has walk b.2 b.4).1)
-accepts_valid status files now words names held items found out out' err err' same told are has walk (inr (inr (inl two))) good bad other = absurd (other two names are)
+accepts_valid status files now words names held items found out out' err err' same told are has walk (inr (inr (inl two))) good bad other = absurd (other two are.call are.asked)
 accepts_valid status files now words names held items found out out' err err' same told are has walk (inr (inr (inr five))) good bad other = inr five
 
-pub refuses_wrong : (status : ℕ) (files now : Option Files) (words names : List (List ℕ)) (held : List File) (items found : List Item) (end : End Refusal) (out out' err err' : Option (List ℕ))
+pub refuses_wrong : {P : List ℕ → Type 0} (status : ℕ) (files now : Option Files) (words names : List (List ℕ)) (held : List File) (items found : List Item) (end : End Refusal) (out out' err err' : Option (List ℕ))
     → StaysSame files now → ((ns : List (List ℕ)) → AreWords words ns → KeepsTold files now ns) → AreWords words names → HoldsAll files names held → Checks (joined_text held) items end
     → end ≢ accepted
     → (status ≡ 0) ⊎ (status ≡ 1) ⊎ (status ≡ 2) ⊎ (status ≡ 5)
-    → (status ≡ 0 → (ns : List (List ℕ)) × AreWords words ns × CheckEnds now ns found accepted out out' err err')
+    → (status ≡ 0 → ((ns : List (List ℕ)) × AreWords words ns × CheckEnds now ns found accepted out out' err err')
+    ⊎ ((text : List ℕ) × AskForText words text × P text))
     → (status ≡ 1 → (ns : List (List ℕ)) × (last : End Refusal) × AreWords words ns × (last ≢ accepted) × CheckEnds now ns found last out out' err err')
-    → (status ≡ 2 → (ns : List (List ℕ)) → AreWords words ns → ⊥)
+    → (status ≡ 2 → (call : Call) → AskFor words call → ⊥)
     → ((status ≡ 1) × (found ≡ items)) ⊎ (status ≡ 5)
-refuses_wrong status files now words names held items found end out out' err err' same told are has walk wrong (inl zero') good bad other =
-    let g = good zero' in
-    absurd (wrong (sym (one_end files now words names g.0 held items found end accepted out out' err err' same told are has walk g.1 g.2).1))
+refuses_wrong {P = P} status files now words names held items found end out out' err err' same told are has walk wrong (inl zero') good bad other = by (good zero')
+  where
+    by : ((ns : List (List ℕ)) × AreWords words ns × CheckEnds now ns found accepted out out' err err') ⊎ ((text : List ℕ) × AskForText words text × P text)
+        → ((status ≡ 1) × (found ≡ items)) ⊎ (status ≡ 5)
+    by (inl g) = absurd (wrong (sym (one_end files now words names g.0 held items found end accepted out out' err err' same told are has walk g.1 g.2).1))
+    by (inr t) = absurd (check_writes_none words names t.0 are t.1)
 refuses_wrong status files now words names held items found end out out' err err' same told are has walk wrong (inr (inl one)) good bad other =
     let b = bad one in
     inl (one, (one_end files now words names b.0 held items found end b.1 out out' err err' same told are has walk b.2 b.4).0)
-refuses_wrong status files now words names held items found end out out' err err' same told are has walk wrong (inr (inr (inl two))) good bad other = absurd (other two names are)
+refuses_wrong status files now words names held items found end out out' err err' same told are has walk wrong (inr (inr (inl two))) good bad other = absurd (other two are.call are.asked)
 refuses_wrong status files now words names held items found end out out' err err' same told are has walk wrong (inr (inr (inr five))) good bad other = inr five
 
--- other words get the usage line, where no write fails
-pub two_alone : (status : ℕ) → (status ≡ 2) ⊎ (status ≡ 4) → (status ≡ 0) ⊎ (status ≡ 1) ⊎ (status ≡ 2) ⊎ (status ≡ 5) → status ≡ 2
-two_alone status (inl two) known = two
-two_alone status (inr four) (inl nought) = omega (arith, four, nought)
-two_alone status (inr four) (inr (inl one)) = omega (arith, four, one)
-two_alone status (inr four) (inr (inr (inl two))) = two
-two_alone status (inr four) (inr (inr (inr five))) = omega (arith, four, five)
+-- other words get the usage line, where no write fails, or memory runs out
+pub two_alone : (status : ℕ) → (status ≡ 2) ⊎ (status ≡ 4) ⊎ (status ≡ 5) → (status ≡ 0) ⊎ (status ≡ 1) ⊎ (status ≡ 2) ⊎ (status ≡ 5) → (status ≡ 2) ⊎ (status ≡ 5)
+two_alone status (inl two) known = inl two
+two_alone status (inr (inr five)) known = inr five
+two_alone status (inr (inl four)) (inl nought) = absurd (omega (arith, four, nought))
+two_alone status (inr (inl four)) (inr (inl one)) = absurd (omega (arith, four, one))
+two_alone status (inr (inl four)) (inr (inr (inl two))) = inl two
+two_alone status (inr (inl four)) (inr (inr (inr five))) = inr five
+
+-- a text that is asked for is written, or memory runs out
+pub written_alone : (status : ℕ) (words : List (List ℕ)) (text : List ℕ) → AskForText words text → (status ≡ 0) ⊎ (status ≡ 1) ⊎ (status ≡ 2) ⊎ (status ≡ 5)
+    → (status ≡ 1 → (names : List (List ℕ)) × AreWords words names) → (status ≡ 2 → (call : Call) → AskFor words call → ⊥) → (status ≡ 0) ⊎ (status ≡ 5)
+written_alone status words text t (inl nought) bad other = inl nought
+written_alone status words text t (inr (inl one)) bad other = let b = bad one in absurd (check_writes_none words b.0 text b.1 t)
+written_alone status words text t (inr (inr (inl two))) bad other = absurd (other two t.call t.asked)
+written_alone status words text t (inr (inr (inr five))) bad other = inr five

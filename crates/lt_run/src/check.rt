@@ -16,11 +16,11 @@ use crate::ended::{Ended, without_items};
 use crate::files::{Joined, Unjoined, join_files};
 use crate::telling::{tell_read_fault, tell_refusal, tell_too_long};
 use crate::walk::{Stop, walk_text};
-use crate::words::Text;
 use lt_extend::Theory;
 use lt_io::{Library, Sink};
 use lt_shared::SharedStore;
 use lt_store::TermStore;
+use lt_words::Text;
 use std::alloc::Global;
 
 /// Checks the text that is joined of files.

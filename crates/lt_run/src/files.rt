@@ -5,9 +5,9 @@ ghost use Rattle.lt_io.specs.Files.{StaysSame, StaysTold, HoldsFile};
 ghost use Rattle.lt_texts.specs.Walks.{plain_limit};
 ghost use Rattle.lt_run.specs.Joining.{AreJoined, FailsToJoin, KeepsTold, Joins, Passes};
 
-use crate::words::Text;
 use lt_hol::Memory;
 use lt_io::{Library, ReadFault, read_all};
+use lt_words::Text;
 use std::alloc::Global;
 
 /// How many bytes a joined text may have.

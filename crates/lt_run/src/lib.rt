@@ -1,6 +1,7 @@
 //! The top call: reads the words, the files and their theory, and writes what was found.
 #![tactic(auto)]
 
+mod asked;
 mod check;
 mod counts;
 mod ended;
@@ -10,10 +11,10 @@ mod report;
 mod run;
 mod sure;
 mod telling;
+mod texts;
 mod walk;
-mod words;
 
 pub use ended::Ended;
+pub use lt_words::Text;
 pub use run::lt;
 pub use sure::lt_sure;
-pub use words::Text;

@@ -6,7 +6,7 @@ ghost use Rattle.lt_run.specs.Joining.{IsJoinedOf};
 ghost use Rattle.lt_run.specs.Places.{AreNames, IsJoinedOfSome, IsFound, IsBehind};
 
 use crate::files::Joined;
-use crate::words::Text;
+use lt_words::Text;
 use std::alloc::{AllocError, Global};
 
 /// A line and a column, from 1.

@@ -11,9 +11,9 @@ ghost use Rattle.lt_run.specs.Places.{AreNames, IsJoinedOfSome};
 
 use crate::files::Joined;
 use crate::places::place_text;
-use crate::words::Text;
 use lt_hol::Memory;
 use lt_plain::{Placed, print_refusal};
+use lt_words::Text;
 use std::alloc::{AllocError, Global};
 
 /// The line on a refusal, with its place in its file.

@@ -10,7 +10,8 @@ ghost use Rattle.lt_extend.specs.Theories.{items_of};
 ghost use Rattle.lt_walks.specs.Walks.{End, accepted};
 ghost use Rattle.lt_walks.specs.PlainWalks.{Checks};
 ghost use Rattle.lt_walks.specs.Calls.{CheckEnds, CheckStops, usage_line};
-ghost use Rattle.lt_run.specs.Words.{AreWords};
+ghost use Rattle.lt_words.specs.Calls.{Call};
+ghost use Rattle.lt_run.specs.Words.{AreWords, AskFor, AskForText, IsBegun, IsWritten};
 ghost use Rattle.lt_run.specs.Joining.{HoldsAll, KeepsTold};
 
 use crate::{Ended, Text, lt};
@@ -27,30 +28,37 @@ pub fn lt_sure(
 ) -> Ended
     ensures status { (result.status ≡ 0) ⊎ (result.status ≡ 1) ⊎ (result.status ≡ 2)
         ⊎ (result.status ≡ 5) }
-    ensures accepted { result.status ≡ 0 → (names : List (List ℕ)) × AreWords words.now names
+    ensures accepted { result.status ≡ 0 → ((names : List (List ℕ)) × AreWords words.now names
         × CheckEnds (told_files lib.new) names (items_of result.items) accepted
-        (told_bytes out.old) (told_bytes out.new) (told_bytes err.old) (told_bytes err.new) }
+        (told_bytes out.old) (told_bytes out.new) (told_bytes err.old) (told_bytes err.new))
+        ⊎ ((text : List ℕ) × AskForText words.now text × IsWritten text result.items
+        (told_bytes out.old) (told_bytes out.new) (told_bytes err.old) (told_bytes err.new)) }
     ensures refused { result.status ≡ 1 → (names : List (List ℕ)) × (end : End Refusal)
         × AreWords words.now names × (end ≢ accepted)
         × CheckEnds (told_files lib.new) names (items_of result.items) end
         (told_bytes out.old) (told_bytes out.new) (told_bytes err.old) (told_bytes err.new) }
     ensures words { result.status ≡ 2
-        → ((names : List (List ℕ)) → AreWords words.now names → ⊥) × (result.items ≡ [])
+        → ((call : Call) → AskFor words.now call → ⊥) × (result.items ≡ [])
         × Grew (told_bytes out.old) (told_bytes out.new) []
         × Grew (told_bytes err.old) (told_bytes err.new) usage_line }
     ensures front { result.status ≡ 5
         → ((result.items ≡ []) × Grew (told_bytes out.old) (told_bytes out.new) [])
         ⊎ ((names : List (List ℕ)) × AreWords words.now names
         × CheckStops (told_files lib.new) names (items_of result.items)
-        (told_bytes out.old) (told_bytes out.new)) }
+        (told_bytes out.old) (told_bytes out.new))
+        ⊎ ((text : List ℕ) × AskForText words.now text
+        × IsBegun text result.items (told_bytes out.old) (told_bytes out.new)) }
     ensures same { StaysSame (told_files lib.old) (told_files lib.new) }
     ensures told { (names : List (List ℕ)) → AreWords words.now names
         → KeepsTold (told_files lib.old) (told_files lib.new) names }
     ensures untouched { ((names : List (List ℕ)) → AreWords words.now names → ⊥)
         → lib.new ≡ lib.old }
-    // Other words get the usage line.
-    ensures other { ((names : List (List ℕ)) → AreWords words.now names → ⊥)
-        → result.status ≡ 2 }
+    // Words that ask for nothing that is done get the usage line, unless memory runs out.
+    ensures other { ((call : Call) → AskFor words.now call → ⊥)
+        → (result.status ≡ 2) ⊎ (result.status ≡ 5) }
+    // A text that is asked for is written, unless memory runs out.
+    ensures written { (text : List ℕ) → AskForText words.now text
+        → (result.status ≡ 0) ⊎ (result.status ≡ 5) }
     // A valid theory is accepted, with its items, unless memory runs out.
     ensures complete { (names : List (List ℕ)) (held : List File) (items : List Item)
         → AreWords words.now names → HoldsAll (told_files lib.old) names held

@@ -13,9 +13,9 @@ ghost use Rattle.lt_run.specs.Places.{AreNames, IsJoinedOfSome};
 
 use crate::files::Joined;
 use crate::report::{read_fault_text, refusal_line, too_long_line};
-use crate::words::Text;
 use lt_io::{Sink, write_all};
 use lt_plain::Placed;
+use lt_words::Text;
 use std::alloc::Global;
 
 /// Writes the line that other words get.

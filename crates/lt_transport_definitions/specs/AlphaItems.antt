@@ -11,6 +11,7 @@ use Rattle.lt_texts.specs.Commands.{Command}
 use Rattle.lt_transport_definitions.specs.Sessions.{Session}
 use Rattle.lt_transport_definitions.specs.Commands.{CommandRefusal}
 use Rattle.lt_transport_definitions.specs.Reports.{printed_refusal}
+use Rattle.lt_transport_definitions.specs.TheoryWalks.{line_of}
 use Rattle.lt_transport_definitions.specs.Blocks.{ComesOf, Gives}
 
 -- The rules of two lines are one, with alpha-equal terms.
@@ -48,7 +49,8 @@ GivesAlike s c items later =
     (given : List Item) × Gives s c given later × AreAlphaEqualItems given items
     × AreValid s.context items
 
--- A call refuses a command: its refusal prints as the first one that applies.
+-- A call refuses a command: its refusal prints as the first one that applies, and stands in the
+-- same line of a lemma.
 abbrev pub RefusesAlike : Session → Command → CommandRefusal → Type 0
 RefusesAlike s c r = (first : CommandRefusal) × ComesOf s c (Err first)
-    × (printed_refusal first ≡ printed_refusal r)
+    × (printed_refusal first ≡ printed_refusal r) × (line_of first ≡ line_of r)

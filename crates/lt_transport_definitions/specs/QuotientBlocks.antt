@@ -1,49 +1,46 @@
 -- What a quotient's theorem says, its tests, and the blocks that follow a quotient.
 -- Source: setup_lifting of Isabelle; the tests and the blocks are this project's own.
-use Rattle.std.specs.Prelude.{List, [], ◌∷◌, ◌++◌, Bool, true, false, ◌&&◌, ◌||◌, not, if◌then◌else◌, map, Option, Some, None, codes, option_and_then}
+use Rattle.std.specs.Prelude.{List, [], ◌∷◌, ◌++◌, Bool, false, ◌&&◌, ◌||◌, not, map, Option, Some, None, codes}
 use Rattle.std.specs.List.{list_all}
 use Prim.Native.String.{String}
-use Rattle.lt_definitions.specs.Types.{Chars, same_name, has_name, TypeTree, type_variable, type_constructor, TypeTrees, no_types, type_and, bool, row, types_names, type_variables}
+use Rattle.lt_definitions.specs.Types.{Chars, same_name, TypeTree, type_variable, type_constructor, TypeTrees, no_types, type_and, bool, type_variables}
 use Rattle.lt_definitions.specs.Terms.{TermTree, constant, application, term_names}
-use Rattle.lt_definitions.specs.Typing.{Signature, declared_type}
-use Rattle.lt_definitions.specs.Printing.{printed_type}
+use Rattle.lt_definitions.specs.Typing.{Signature}
+use Rattle.lt_definitions.specs.Printing.{type_variable_name}
 use Rattle.lt_transport_definitions.specs.Notation.{WithType, ◌⇒◌, ◌~◌, ◌·◌, ◌≐◌, lambda, equality_at}
-use Rattle.lt_transport_definitions.specs.Letters.{a, c, d, e}
 use Rattle.lt_transport_definitions.specs.Constants.{is_counted, apply, rel_fun, domainp}
 use Rattle.lt_transport_definitions.specs.Relations.{Property, Correspondence}
-use Rattle.lt_transport_definitions.specs.Answers.{wrong_where}
-use Rattle.lt_transport_definitions.specs.Forms.{constructor_name, correspondence_form}
-use Rattle.lt_transport_definitions.specs.Sessions.{Four, QuotientEntry, constant_name, constant_types_of}
+use Rattle.lt_transport_definitions.specs.Answers.{wrong_where, only_where}
+use Rattle.lt_transport_definitions.specs.Forms.{constructor_name}
+use Rattle.lt_transport_definitions.specs.Sessions.{QuotientEntry, constant_name}
 use Rattle.lt_transport_definitions.specs.Commands.{CommandRefusal, because, Addition, Registration, corr_registered, property_registered, domain_registered, rule_registered, quotient_registered}
 use Rattle.lt_transport_definitions.specs.Rows.{lemma_of}
 
--- What a quotient's theorem says: the raw and the abstract type, and the four terms.
-pub record QuotientTheorem : Type 0 where
-  pub raw : TypeTree
-  pub abs : TypeTree
-  pub four : Four
-
--- four terms with the types that a quotient between these types gives them
-abbrev pub four_between : (raw abs : TypeTree) → (R A B T : TermTree) → Four
-four_between raw abs R A B T = record {
-  rel = record { term = R; ty = raw ~ raw };
-  abs = record { term = A; ty = raw ⇒ abs };
-  rep = record { term = B; ty = abs ⇒ raw };
-  corr = record { term = T; ty = raw ~ abs };
+-- The entry of a quotient with the label of its theorem: its types, and its four terms, which have
+-- the types that a quotient between these gives them.
+abbrev pub entry_between : Chars → (raw abs : TypeTree) → (R A B T : TermTree)
+    → (of_typedef : Bool) → QuotientEntry
+entry_between l raw abs R A B T of_typedef = record {
+  con = constructor_name abs;
+  label = l;
+  abs_type = abs;
+  raw_type = raw;
+  four = record {
+    rel = record { term = R; ty = raw ~ raw };
+    abs = record { term = A; ty = raw ⇒ abs };
+    rep = record { term = B; ty = abs ⇒ raw };
+    corr = record { term = T; ty = raw ~ abs };
+  };
+  of_typedef = of_typedef;
 }
 
--- Quotient R A B T, where the constant counts as such
-abbrev pub as_quotient : Signature → TermTree → Option QuotientTheorem
-as_quotient sig
+-- The quotient of which a theorem says Quotient R A B T, where the constant counts as such.
+abbrev pub as_quotient : Signature → Chars → TermTree → Option QuotientEntry
+as_quotient sig l
     (application (application (application (application (constant c (raw ∷ abs ∷ [])) R) A) B) T) =
-    if same_name c (codes "Quotient") && is_counted sig c
-    then Some (record { raw = raw; abs = abs; four = four_between raw abs R A B T }) else None
-as_quotient sig _ = None
-
--- the form that a correspondence's constant has
-abbrev pub corr_form_of : Signature → TermTree → Option Correspondence
-corr_form_of sig t =
-    option_and_then (correspondence_form (constant_name t)) (declared_type sig (constant_name t))
+    only_where (same_name c (codes "Quotient") && is_counted sig c)
+    (entry_between l raw abs R A B T false)
+as_quotient sig l _ = None
 
 abbrev mutual
   pub constructors_in : TypeTree → List Chars
@@ -65,32 +62,16 @@ is_in_order sig raw abs =
     list_all (λ c. comes_before c (constructor_name abs) (map (λ p. p.0) sig.types))
     (constructors_in raw)
 
-abbrev pub is_variable : TypeTree → Bool
-is_variable (type_variable a) = true
-is_variable (type_constructor c ts) = false
-
 -- the refusal of a raw type that is a variable
 abbrev pub bare_test : TypeTree → Option CommandRefusal
-bare_test raw = wrong_where (is_variable raw) (because "BareParameter" (printed_type raw ∷ []))
+bare_test (type_variable a) = Some (because "BareParameter" (type_variable_name a ∷ []))
+bare_test (type_constructor c ts) = None
 
--- the refusal of a theorem that fails a test
 abbrev pub not_quotient : String → CommandRefusal
 not_quotient part = because "NotQuotient" (codes part ∷ [])
 
 abbrev pub quotient_test : Bool → String → Option CommandRefusal
 quotient_test holds part = wrong_where (not holds) (not_quotient part)
-
--- the entry of a quotient, with the label of its theorem
-abbrev pub entry_between : Chars → (raw abs : TypeTree) → Four → (of_typedef : Bool) → QuotientEntry
-entry_between l raw abs four of_typedef =
-    record {
-      con = constructor_name abs;
-      label = l;
-      abs_type = abs;
-      raw_type = raw;
-      four = four;
-      of_typedef = of_typedef;
-    }
 
 -- \x. R x x
 abbrev pub self_related : TypeTree → WithType → WithType
@@ -111,8 +92,7 @@ corr_property l p e =
     property_registered
     (record { label = l; property = p; head = constant_name e.four.corr.term; premises = [] })
 
--- What a tail block registers: the correspondence, the quotient, the two properties, the rule and
--- the domain equation.
+-- What a tail block registers.
 abbrev pub tail_registrations : QuotientEntry → Correspondence → WithType → List Registration
 tail_registrations e d domain =
     corr_registered d
@@ -124,7 +104,7 @@ tail_registrations e d domain =
       label = e.con ++ codes "_domain";
       head = constant_name e.four.corr.term;
       variables = [];
-      type_arguments = types_names (row (constant_types_of e.four.corr.term));
+      type_arguments = term_names e.four.corr.term;
       domain = domain.term;
     }) ∷ []
 
@@ -137,7 +117,3 @@ new_corr e =
       con = e.con;
       parameters = type_variables e.abs_type;
     }
-
--- whether R has no type variable that T lacks
-abbrev pub has_variables_of : (R T : WithType) → Bool
-has_variables_of R T = list_all (λ a. has_name a (term_names T.term)) (term_names R.term)

@@ -4,12 +4,10 @@
 use Rattle.std.specs.Prelude.{List, [], ◌∷◌, if◌then◌else◌, map, codes, unwrap_or, option_map}
 use Rattle.lt_definitions.specs.Types.{Chars, same_name, TypeTree, TypeMap, type_instance}
 use Rattle.lt_definitions.specs.Terms.{term_instance}
-use Rattle.lt_transport_definitions.specs.Notation.{WithType, result_type, domain_type, equality_at}
-use Rattle.lt_transport_definitions.specs.Letters.{e}
-use Rattle.lt_transport_definitions.specs.Constants.{table_constant, apply, rel_fun, relcompp, map_fun}
-use Rattle.lt_transport_definitions.specs.Relations.{Registry, relator_of, relator_for, a_relator}
-use Rattle.lt_transport_definitions.specs.RelationTerms.{constructed_term}
-use Rattle.lt_transport_definitions.specs.RelatorForm.{mapping_term}
+use Rattle.lt_transport_definitions.specs.Notation.{WithType, domain_type, equality_at}
+use Rattle.lt_transport_definitions.specs.Constants.{table_constant, apply, relcompp, map_fun}
+use Rattle.lt_transport_definitions.specs.Relations.{Registry, relator_of, relator_for}
+use Rattle.lt_transport_definitions.specs.RelatorForm.{relator_term, mapping_term}
 use Rattle.lt_transport_definitions.specs.Sessions.{Four, QuotientEntry}
 use Rattle.lt_transport_definitions.specs.Quotients.{entry_map, Quot, Quots, identity_quotient, relator_quotient, registered_quotient, composed_quotient, no_quotient_between, no_quots, quot_and}
 
@@ -17,7 +15,6 @@ use Rattle.lt_transport_definitions.specs.Quotients.{entry_map, Quot, Quots, ide
 abbrev pub instance_with_type : TypeMap → WithType → WithType
 instance_with_type m t = record { term = term_instance m t.term; ty = type_instance m t.ty }
 
--- its four terms at these arguments
 abbrev pub four_at : QuotientEntry → List TypeTree → Four
 four_at e ts = let m : TypeMap = entry_map e ts in record {
   rel = instance_with_type m e.four.rel;
@@ -26,14 +23,10 @@ four_at e ts = let m : TypeMap = entry_map e ts in record {
   corr = instance_with_type m e.four.corr;
 }
 
--- the abstract type between which and the raw type a quotient's functions go
+-- the abstract type of a quotient
 abbrev pub abs_type_of : Four → TypeTree
 abs_type_of q = domain_type q.rep.ty
 
-abbrev pub raw_type_of : Four → TypeTree
-raw_type_of q = domain_type q.abs.ty
-
--- eq, id, id and eq
 abbrev pub identity_four : TypeTree → Four
 identity_four t =
     record {
@@ -43,40 +36,32 @@ identity_four t =
       corr = equality_at t;
     }
 
--- a constructor's relator over relations
+-- the constant that maps of a constructor's relator
+abbrev pub mapping_of : Registry → Chars → Chars
+mapping_of G K = unwrap_or (option_map (λ r. r.mapping) (relator_of G K)) []
+
 abbrev pub by_relator : Registry → Chars → List WithType → WithType
-by_relator G K rs = constructed_term (a_relator K) (unwrap_or (relator_for G K) []) [] rs
+by_relator G K rs = relator_term K (unwrap_or (relator_for G K) []) rs
 
--- a constructor's mapping over functions
-abbrev pub by_mapping : Registry → Chars → List WithType → WithType
-by_mapping G K fs = let M : Chars = unwrap_or (option_map (λ r. r.mapping) (relator_of G K)) [] in
-    mapping_term K M (map (λ f. domain_type f.ty) fs) (map (λ f. result_type f.ty) fs) fs
-
--- over quotients of two arguments, that of fun
-abbrev pub function_four : Four → Four → Four
-function_four q r = record {
-  rel = rel_fun q.rel r.rel;
-  abs = map_fun q.rep r.abs;
-  rep = map_fun q.abs r.rep;
-  corr = rel_fun q.corr r.corr;
-}
-
--- over quotients of arguments, that of another constructor
-abbrev pub plain_relator_four : Registry → Chars → List Four → Four
-plain_relator_four G K qs = record {
-  rel = by_relator G K (map (λ q. q.rel) qs);
-  abs = by_mapping G K (map (λ q. q.abs) qs);
-  rep = by_mapping G K (map (λ q. q.rep) qs);
-  corr = by_relator G K (map (λ q. q.corr) qs);
-}
+-- a constructor's mapping over functions there, given those back: that of fun takes its first
+-- argument's function back
+abbrev pub by_mapping : Registry → Chars → (there back : List WithType) → WithType
+by_mapping G K (f ∷ g ∷ []) (f' ∷ _) =
+    if same_name K (codes "fun") then map_fun f' g else mapping_term K (mapping_of G K) (f ∷ g ∷ [])
+by_mapping G K fs _ = mapping_term K (mapping_of G K) fs
 
 -- over quotients of arguments, that of a constructor with a relator
 abbrev pub relator_four : Registry → Chars → List Four → Four
-relator_four G K (q ∷ r ∷ []) =
-    if same_name K (codes "fun") then function_four q r else plain_relator_four G K (q ∷ r ∷ [])
-relator_four G K qs = plain_relator_four G K qs
+relator_four G K qs =
+    let there : List WithType = map (λ q. q.abs) qs in
+    let back : List WithType = map (λ q. q.rep) qs in
+    record {
+      rel = by_relator G K (map (λ q. q.rel) qs);
+      abs = by_mapping G K there back;
+      rep = by_mapping G K back there;
+      corr = by_relator G K (map (λ q. q.corr) qs);
+    }
 
--- a quotient behind another
 abbrev pub composed_four : Four → Four → Four
 composed_four q r = record {
   rel = relcompp q.corr (relcompp r.rel (apply "conversep" (q.corr ∷ [])));

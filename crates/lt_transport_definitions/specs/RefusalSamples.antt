@@ -8,7 +8,7 @@ use Rattle.lt_definitions.specs.Items.{Item, type_item, const_item, axiom_item, 
 use Rattle.lt_definitions.specs.Typing.{Signature}
 use Rattle.lt_transport_definitions.specs.Notation.{WithType, ◌⇒◌, ◌~◌}
 use Rattle.lt_transport_definitions.specs.Relations.{Correspondence, Parametrised, Registry}
-use Rattle.lt_transport_definitions.specs.RelatorForm.{equality_statement, quotient_statement, composition_statement, relator_type, mapping_type}
+use Rattle.lt_transport_definitions.specs.RelatorForm.{equality_statement, quotient_statement, composition_statement, lifted_type}
 use Rattle.lt_transport_definitions.specs.Search.{equal}
 use Rattle.lt_transport_definitions.specs.LawTexts.{laws_of_lifting, laws_of_lift}
 use Rattle.lt_transport_definitions.specs.Sessions.{QuotientEntry, Session}
@@ -121,12 +121,12 @@ over_quotient_of_t = let P : WithType = record { term = con "P"; ty = nat ⇒ bo
 
 -- the type of a relator of lists
 abbrev pub list_relator_type : TypeTree
-list_relator_type = relator_type (codes "list") (tyvar "a" ∷ []) (tyvar "b" ∷ [])
+list_relator_type = lifted_type ◌~◌ (codes "list") (tyvar "a" ∷ []) (tyvar "b" ∷ [])
 
 -- the mapping of lists, and the three statements of a relator of theirs with this name
 abbrev pub list_statements : Chars → List Item
 list_statements R =
-    const_item (codes "map") (mapping_type (codes "list") (tyvar "a" ∷ []) (tyvar "b" ∷ []))
+    const_item (codes "map") (lifted_type ◌⇒◌ (codes "list") (tyvar "a" ∷ []) (tyvar "b" ∷ []))
     ∷ axiom_item (codes "list_eq") (equality_statement (codes "list") R (tyvar "a" ∷ [])).term
     ∷ axiom_item (codes "list_quotient")
     (quotient_statement (codes "list") R (codes "map") (1 ∷ [])).term

@@ -12,7 +12,6 @@ use Rattle.lt_walks.specs.Outputs.{summary_of, end_line}
 use Rattle.lt_transport_definitions.specs.Commands.{CommandRefusal, as_item, in_words}
 use Rattle.lt_transport_definitions.specs.TheoryWalks.{theory_limit}
 
--- a refusal as it prints
 abbrev pub printed_refusal : CommandRefusal → Chars
 printed_refusal (as_item r) = printed_item_refusal r
 printed_refusal (in_words ws) = words ws

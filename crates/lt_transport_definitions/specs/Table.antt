@@ -2,18 +2,20 @@
 -- registers. The tests of its parts and names stand before them.
 -- Source: after the commands of Isabelle's Lifting and Transfer packages; the tests are this
 -- project's own.
-use Rattle.std.specs.Prelude.{[], ◌∷◌, not, map, codes, Option, option_and_then, is_some, ◌++◌, nat_lt, false, option_map, ◌+◌, ◌||◌, length, nat_eq, position}
+use Rattle.std.specs.Prelude.{[], ◌∷◌, not, map, codes, Option, unwrap_or, is_some, ◌++◌, nat_lt, option_map, ◌+◌, ◌||◌, length, nat_eq, position}
 use Rattle.lt_definitions.specs.Types.{Chars, are_distinct, type_variables, type_instance}
-use Rattle.lt_definitions.specs.Typing.{declared_type, Signature}
+use Rattle.lt_definitions.specs.Typing.{Signature}
 use Rattle.lt_definitions.specs.Alpha.{is_alpha, is_same_up_to_types}
-use Rattle.lt_transport_definitions.specs.Relations.{Relator, Registry, relator_for, property_rule_for, domain_rule_for, kind_of, is_constructor, Relation, Sides}
+use Rattle.lt_transport_definitions.specs.Relations.{Relator, Registry, relator_for, property_rule_for, domain_rule_for, kind_of, is_constructor, any_part, Sides}
 use Rattle.lt_transport_definitions.specs.Answers.{wrong_where}
-use Rattle.lt_transport_definitions.specs.Forms.{correspondence_form, property_form, domain_form, is_over_variables}
-use Rattle.lt_transport_definitions.specs.RuleForm.{rule_form}
+use Rattle.lt_transport_definitions.specs.Reading.{prefix_of, body_of}
+use Rattle.lt_definitions.specs.Terms.{term_names}
+use Rattle.lt_transport_definitions.specs.Forms.{declared_correspondence, property_form, domain_form, is_over_variables, are_among}
+use Rattle.lt_transport_definitions.specs.RuleForm.{rule_form, conditioned}
 use Rattle.lt_transport_definitions.specs.RelatorForm.{relator_form}
 use Rattle.lt_transport_definitions.specs.LawTable.{equality_law}
 use Rattle.lt_transport_definitions.specs.LawTexts.{law_statement, laws_of_lifting, laws_of_lifting_typedef, laws_of_quotient_type, laws_of_lift, laws_of_parametric, laws_of_param_rule}
-use Rattle.lt_transport_definitions.specs.Sessions.{Session, signature_of, transport_of, QuotientEntry, typedef_of, quotient_of, Four}
+use Rattle.lt_transport_definitions.specs.Sessions.{Session, signature_of, transport_of, typedef_of, quotient_of, constant_name, Four}
 use Rattle.lt_transport_definitions.specs.Commands.{CommandRefusal, because, Registration, law_registered, corr_registered, relator_registered, property_registered, domain_registered, rule_registered, as_item, a_lemma, this_item}
 use Rattle.lt_transport_definitions.specs.Rows.{Row, ◌⊳◌, with_value, with_form, adds, with_statement, law_test, registered_test, item_test, lemma_of, with_its_type, with_quotient}
 use Rattle.std.specs.Fmt.{decimal}
@@ -23,7 +25,7 @@ use Rattle.lt_transport_definitions.specs.Search.{equal, implied}
 use Rattle.lt_transport_definitions.specs.Notation.{WithType, ◌·◌}
 use Rattle.lt_transport_definitions.specs.Constants.{apply, is_counted}
 use Rattle.lt_transport_definitions.specs.Parts.{tail_names, name_test}
-use Rattle.lt_transport_definitions.specs.QuotientBlocks.{as_quotient, corr_form_of, is_in_order, bare_test, not_quotient, quotient_test, entry_between, self_related, tail_block, tail_registrations, has_variables_of}
+use Rattle.lt_transport_definitions.specs.QuotientBlocks.{as_quotient, is_in_order, bare_test, not_quotient, quotient_test, self_related, tail_block, tail_registrations}
 use Rattle.lt_transport_definitions.specs.Quotients.{Quot}
 use Rattle.lt_transport_definitions.specs.QuotientTerms.{abs_type_of, four_of, result_quotient}
 use Rattle.lt_transport_definitions.specs.RawRelators.{unrelated, holds_function_relator, function_parts, has_fixed_types}
@@ -31,23 +33,20 @@ use Rattle.lt_texts.specs.Commands.{Command, item_command, law_command, corr_com
 use Rattle.lt_transport_definitions.specs.TransportRows.{transport_row}
 use Rattle.lt_transport_definitions.specs.QuotientRows.{raw_of, typedef_entry, adds_typedef_quotient, is_relation_on_one, class_entry, classes_of, adds_class_quotient}
 use Rattle.lt_transport_definitions.specs.LiftRows.{respect_goal, adds_lifted, abs_equation, rep_equation, has_rep_equation, with_lifted}
-use Rattle.lt_transport_definitions.specs.ParamRows.{numbered_by, parameters_of, form_body, adds_form, not_parametric, statement_sides, relation_to_right, down_statement, up_statement}
+use Rattle.lt_transport_definitions.specs.ParamRows.{numbered_by, parameters_of, form_body, adds_form, not_parametric, down_statement, up_statement}
 
 abbrev pub registers : Registration → Row
 registers r = adds [] (r ∷ [])
 
--- the refusal of a part of a form, as of relators and correspondences, and as of rules
 abbrev pub relator_shape : Chars → CommandRefusal
 relator_shape part = because "RelatorShape" (part ∷ [])
 
 abbrev pub rule_shape : Chars → CommandRefusal
 rule_shape part = because "RuleShape" (part ∷ [])
 
--- the refusal of what is a relation constructor already
 abbrev pub constructor_test : Registry → Chars → Option CommandRefusal
 constructor_test G c = registered_test (is_constructor (kind_of G c)) c
 
--- The row of a command.
 abbrev pub row_of : Session → Command → Row
 row_of s (item_command i) = item_test (refusal s.context i) ⊳ adds (this_item i ∷ []) []
 row_of s (law_command w l) =
@@ -56,8 +55,7 @@ row_of s (law_command w l) =
     wrong_where (not (is_alpha t law)) (because "LawDiffers" (w ∷ [])) ⊳
     registers (law_registered w l)
 row_of s (corr_command c) =
-    with_value (option_and_then (correspondence_form c) (declared_type (signature_of s) c))
-    (relator_shape (codes "Corr")) λ d.
+    with_value (declared_correspondence (signature_of s) c) (relator_shape (codes "Corr")) λ d.
     constructor_test s.registry c ⊳
     registers (corr_registered d)
 row_of s (relator_command K R M E Q O) =
@@ -91,14 +89,15 @@ row_of s (lifting_command l) =
     let sig : Signature = signature_of s in
     with_statement s l λ t.
     law_test s laws_of_lifting ⊳
-    with_value (as_quotient sig t) (not_quotient "shape") λ quot.
-    let e : QuotientEntry = entry_between l quot.raw quot.abs quot.four false in
-    let domain : WithType = self_related quot.raw quot.four.rel in
-    quotient_test (is_over_variables quot.abs) "abstract" ⊳
-    with_value (corr_form_of sig quot.four.corr.term) (not_quotient "relation") λ d.
-    quotient_test (has_variables_of quot.four.rel quot.four.corr) "relation" ⊳
-    quotient_test (is_in_order sig quot.raw quot.abs) "order" ⊳
-    bare_test quot.raw ⊳
+    with_value (as_quotient sig l t) (not_quotient "shape") λ e.
+    let domain : WithType = self_related e.raw_type e.four.rel in
+    quotient_test (is_over_variables e.abs_type) "abstract" ⊳
+    with_value (declared_correspondence sig (constant_name e.four.corr.term))
+    (not_quotient "relation") λ d.
+    quotient_test (are_among (term_names e.four.rel.term) (term_names e.four.corr.term))
+    "relation" ⊳
+    quotient_test (is_in_order sig e.raw_type e.abs_type) "order" ⊳
+    bare_test e.raw_type ⊳
     registered_test (is_some (quotient_of s.quotients e.con)) e.con ⊳
     item_test (name_test s.context (tail_names e.con)) ⊳
     adds (tail_block e domain) (tail_registrations e d domain)
@@ -143,12 +142,12 @@ row_of s (param_rule_command n l m) =
     with_statement s m λ u.
     law_test s laws_of_param_rule ⊳
     with_form (rule_form (signature_of s) s.registry l t) rule_shape λ rule.
-    let r : Relation = relation_to_right s.registry rule in
-    let sides : Sides = statement_sides (signature_of s) u in
+    let sides : Sides =
+    (conditioned (signature_of s) (unwrap_or (prefix_of u) []) (body_of u)).0 in
     wrong_where (nat_lt 0 (length rule.variables)) (rule_shape (codes "Prefix")) ⊳
     option_map (λ i. because "HigherOrderArgument" (decimal (i + 1) ∷ []))
-    (position (holds_function_relator s.registry) (function_parts r)) ⊳
-    wrong_where (has_fixed_types r) (rule_shape (codes "Types")) ⊳
+    (position (holds_function_relator s.registry) (function_parts rule.relation)) ⊳
+    wrong_where (any_part has_fixed_types rule.relation) (rule_shape (codes "Types")) ⊳
     wrong_where (not
     (is_same_up_to_types u ((down_statement (signature_of s) s.registry rule sides).term)))
     (rule_shape (codes "Relation")) ⊳

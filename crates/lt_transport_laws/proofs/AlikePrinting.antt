@@ -10,7 +10,10 @@ use Rattle.lt_definitions.specs.Items.{Item, type_item, const_item, axiom_item, 
 use Rattle.lt_definitions.specs.Printing.{printed_type, printed_term, words, type_variable_name, printed_params, printed_rule, printed_head, printed_lines, printed_item, summary_lines, is_axiom, is_lemma}
 use Rattle.lt_nameless.proofs.PrintingLemmas.{alpha_prints_alike}
 use Rattle.lt_transport_definitions.specs.AlphaItems.{IsAlphaEqualRule, AreAlphaEqualRules, IsAlphaEqualItem, AreAlphaEqualItems}
-use Rattle.lt_transport_laws.specs.SessionStatements.{AlikeItemsPrintAlike}
+use Rattle.lt_transport_laws.specs.SessionStatements.{AlikeItemsPrintAlike, AlikeRefusalsPrintAlike}
+use Rattle.lt_texts.specs.Files.{in_file}
+use Rattle.lt_walks.specs.Walks.{place_of}
+use Rattle.lt_walks.specs.Outputs.{line_about}
 
 -- a rule by its shape and what is printed of its term
 printed_by : Rule (Unit {0}) → Chars → Chars
@@ -157,6 +160,9 @@ all-alike (i ∷ items) (j ∷ others) h =
       λ n m e. r.3 (n + cond (is_axiom i) 1 0) (m + cond (is_axiom j) 1 0) (λ k. e k + cond (a.2 k) 1 0),
       λ n m e. r.4 (n + cond (is_lemma i) 1 0) (m + cond (is_lemma j) 1 0) (λ k. e k + cond (a.3 k) 1 0),
     )
+
+pub refusals-alike : AlikeRefusalsPrintAlike
+refusals-alike s c r h = (h.0, h.1, λ files from lines. λ i. line_about (in_file files (place_of from lines (h.3 i))) (h.2 i))
 
 pub print-alike : AlikeItemsPrintAlike
 unfolding AllAlike counted

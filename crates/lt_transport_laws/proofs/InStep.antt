@@ -1,5 +1,6 @@
 -- A session in step gives one in step.
 use Rattle.std.specs.Prelude.{◌≡◌, ◌⊎◌, List, [], ◌∷◌, ◌++◌, ◌&&◌, Option, Some, None, map, fold, option_map, option_to_list, is_some, codes}
+use Rattle.std.specs.Result.{result_ok}
 use Rattle.std.specs.List.{flat_map}
 use Rattle.std.proofs.Common.{refl, subst, sym, ap, ◌∙◌, inl, inr}
 use Rattle.lt_definitions.specs.Types.{Chars, same_name, TypeTree}
@@ -7,7 +8,7 @@ use Rattle.lt_definitions.specs.Terms.{TermTree}
 use Rattle.lt_definitions.specs.Items.{def_item, Context}
 use Rattle.lt_transport_definitions.specs.Notation.{WithType, ◌·◌}
 use Rattle.lt_transport_definitions.specs.Relations.{Relator, PropertyRule, DomainRule}
-use Rattle.lt_transport_definitions.specs.Answers.{value_of, first_wrong}
+use Rattle.lt_transport_definitions.specs.Answers.{first_wrong}
 use Rattle.lt_transport_definitions.specs.RuleForm.{TransferRule, rule_form}
 use Rattle.lt_transport_definitions.specs.Sessions.{Four, QuotientEntry, Session, signature_of, statement_at}
 use Rattle.lt_texts.specs.Commands.{Command, item_command, law_command, corr_command, relator_command, property_command, domain_command, rule_command, lifting_command, lifting_typedef_command, quotient_type_command, lift_command, parametric_command, param_rule_command, equiv_command, implies_command, carry_command, abs_eq_command, rep_eq_command}
@@ -24,6 +25,7 @@ use Rattle.lt_transport_laws.proofs.RowFacts.{EachBlock, comes-block}
 use Rattle.lt_transport_laws.proofs.RegistriesStay.{form-same}
 use Rattle.lt_transport_laws.proofs.StatedLabels.{additions-keep, States, additions-state, all-keep, map-one, flat-one, unless-one}
 use Rattle.lt_transport_laws.proofs.FormLabels.{property-label, domain-label}
+use Rattle.lt_transport_laws.proofs.TheoremForms.{quotient-is}
 
 -- the same as being in step, where the context is told
 pub record IsInStepAt (ctx : Context) (s : Session) : Type 0 where
@@ -266,7 +268,7 @@ lifted-known s n ty t l four h =
     let transfer : WithType = four.corr · t · declared_constant n ty in
     let items : List Addition = this_item (def_item n ty ((four.abs · t).term)) ∷ lemma_of (n ++ codes "_transfer") transfer ∷ [] in (
       (inr (inl refl), (inl h, (inr (inr (inl refl)), tt))),
-      optional-rule s items (n ++ codes "_transfer") (value_of (rule_form (signature_of s) s.registry (n ++ codes "_transfer") transfer.term)) (inr (inr (inl refl))),
+      optional-rule s items (n ++ codes "_transfer") (result_ok (rule_form (signature_of s) s.registry (n ++ codes "_transfer") transfer.term)) (inr (inr (inl refl))),
     )
 
 in-rows : (s : Session) (c : Command) → EachBlock (Registers s) (row_of s c)
@@ -282,7 +284,9 @@ in-rows s (property_command l) = λ t e rule f n.
 in-rows s (domain_command l) = λ t e rule f n.
     ((subst (Known s []) (sym (domain-label (signature_of s) s.registry l t rule f)) (found-known s [] l t e), tt), tt)
 in-rows s (rule_command l) = λ t e rule f n. ((found-known s [] l t e, tt), tt)
-in-rows s (lifting_command l) = λ t e n quot f m x g o p q u v. (tt, ((inl (ap is_some e), tt), ((inr (inl refl), tt), ((inr (inr (inl refl)), tt), ((inr (inr (inr (inl refl))), tt), ((inr (inr (inr (inr (inl refl)))), tt), tt))))))
+in-rows s (lifting_command l) = λ t e n quot f m x g o p q u v.
+    let same : quot.label ≡ l = (quotient-is (signature_of s) l t quot f).6 in
+    (tt, ((inl (subst (IsStated s.context) (sym same) (ap is_some e)), tt), ((inr (inl refl), tt), ((inr (inr (inl refl)), tt), ((inr (inr (inr (inl refl))), tt), ((inr (inr (inr (inr (inl refl)))), tt), tt))))))
 in-rows s (lifting_typedef_command q) = λ n t e m. ((inr (inr (inr (inl refl))), tt), (tt, ((inr (inr (inl refl)), tt), ((inr (inr (inr (inr (inl refl)))), tt), ((inr (inr (inr (inr (inr (inl refl))))), tt), ((inr (inr (inr (inr (inr (inr (inl refl)))))), tt), ((inr (inr (inr (inr (inr (inr (inr (inl refl))))))), tt), tt)))))))
 in-rows s (quotient_type_command q params r l) = λ t e n m o p u v w. (tt, ((inr (inr (inr (inr (inr (inr (inl refl)))))), tt), ((inr (inr (inr (inr (inr (inr (inr (inl refl))))))), tt), ((inr (inr (inr (inr (inr (inr (inr (inr (inl refl)))))))), tt), ((inr (inr (inr (inr (inr (inr (inr (inr (inr (inl refl))))))))), tt), ((inr (inr (inr (inr (inr (inr (inr (inr (inr (inr (inl refl)))))))))), tt), tt))))))
 in-rows s (lift_command n ty t l) = λ respects e m o q p u. lifted-known s n ty (with_its_type (signature_of s) t) l (four_of s.registry q) (ap is_some e)

@@ -5,7 +5,7 @@ use Rattle.std.specs.Result.{result_unwrap_or}
 use Rattle.std.proofs.Common.{refl, sym, ap, ◌∙◌, subst, inl, inr}
 use Rattle.std.proofs.lemmas.Bool.{and_parts}
 use Rattle.lt_definitions.specs.Types.{Chars, same_name, found, TypeTree, type_variable, type_constructor, no_types, type_and, row, bool, fun, same_type}
-use Rattle.lt_definitions.specs.Terms.{TermTree, free_variable, bound_name, constant, application, abstraction}
+use Rattle.lt_definitions.specs.Terms.{TermTree, constant, application}
 use Rattle.lt_definitions.specs.Typing.{Signature, Fault, type_fault, types_fault, typed, HasType}
 use Rattle.lt_definitions.specs.Rules.{type_of}
 use Rattle.lt_definitions.specs.Items.{Item, type_item, const_item, axiom_item, def_item, typedef_item, lemma_item, Context, new_type, raw_type, with_typedef, with_item}
@@ -21,14 +21,13 @@ use Rattle.lt_nameless.proofs.StatementTypes.{IsSound, sound-items, sound-fun, t
 use Rattle.lt_nameless.proofs.Typings.{typed-has, has-typed}
 use Rattle.lt_transport_definitions.specs.Notation.{WithType, domain_type}
 use Rattle.lt_transport_definitions.specs.Patterns.{relation_sides}
-use Rattle.lt_transport_definitions.specs.Constants.{is_counted}
 use Rattle.lt_transport_definitions.specs.Answers.{first_wrong}
 use Rattle.lt_transport_definitions.specs.RuleForm.{TransferRule}
 use Rattle.lt_transport_definitions.specs.Sessions.{Typedef, QuotientEntry, Session, typedef_of}
 use Rattle.lt_texts.specs.Commands.{Command, item_command, law_command, corr_command, relator_command, property_command, domain_command, rule_command, lifting_command, lifting_typedef_command, quotient_type_command, lift_command, parametric_command, param_rule_command, equiv_command, implies_command, carry_command, abs_eq_command, rep_eq_command}
 use Rattle.lt_transport_definitions.specs.Commands.{Addition, this_item, a_lemma, Registration, law_registered, corr_registered, relator_registered, form_registered, property_registered, domain_registered, rule_registered, quotient_registered, lifted_registered, transport_registered, Block, item_of, with_typedef_of, with_addition, with_registration, session_behind}
 use Rattle.lt_transport_definitions.specs.Parts.{tests_before}
-use Rattle.lt_transport_definitions.specs.QuotientBlocks.{QuotientTheorem, four_between, as_quotient, is_in_order, quotient_test}
+use Rattle.lt_transport_definitions.specs.QuotientBlocks.{as_quotient, is_in_order, quotient_test}
 use Rattle.lt_transport_definitions.specs.QuotientRows.{raw_of, typedef_entry, adds_typedef_quotient, is_relation_on_one, class_entry, adds_class_quotient}
 use Rattle.lt_transport_definitions.specs.Rows.{Row, adds, with_its_type}
 use Rattle.lt_transport_definitions.specs.Table.{row_of}
@@ -41,6 +40,7 @@ use Rattle.lt_transport_laws.proofs.PlainWalks.{adds-same}
 use Rattle.lt_transport_laws.proofs.QuotientsExist.{quotients-exist}
 use Rattle.lt_transport_laws.proofs.RowFacts.{EachBlock, comes-block}
 use Rattle.lt_transport_laws.proofs.RowLemmas.{comes-unless}
+use Rattle.lt_transport_laws.proofs.TheoremForms.{quotient-is}
 use Rattle.lt_transport_laws.proofs.TheorySessions.{theory-kept, theory-stated, theory-context}
 
 -- what additions declare
@@ -77,7 +77,7 @@ typedef-facts c n xs p l a r v =
     (x.raw, pred, x.new_type, ap (λ o. (with_typedef n xs p a r o c).signature.types) some)
 
 -- a term's type has no fault
-type-sound : (d : Context) → IsSound d → (t : TermTree) (ty : TypeTree) → typed d.signature [] t ≡ Ok ty → type_fault d.signature ty ≡ None
+pub type-sound : (d : Context) → IsSound d → (t : TermTree) (ty : TypeTree) → typed d.signature [] t ≡ Ok ty → type_fault d.signature ty ≡ None
 type-sound d s t ty e = typed-sound d.signature s.built s.consts [] (λ c u f. no-pair c u f) t ty (typed-has d.signature [] t ty e)
   where
     no-pair : (c : Chars) (u : TypeTree) → found {A = TypeTree} c [] ≡ Some u → type_fault d.signature u ≡ None
@@ -182,58 +182,13 @@ pub test-holds : (b : Bool) (part : String) → quotient_test b part ≡ None �
 test-holds true part e = refl
 test-holds false part e = absurd (cc)
 
-quotient-named : (sig : Signature) (c : Chars) (raw abs : TypeTree) (R A B T : TermTree) (q : QuotientTheorem)
-    → as_quotient sig (application (application (application (application (constant c (raw ∷ abs ∷ [])) R) A) B) T) ≡ Some q
-    → (c' : Chars) × (A' : TermTree) × (B' : TermTree) × (T' : TermTree)
-    × (application (application (application (application (constant c (raw ∷ abs ∷ [])) R) A) B) T
-    ≡ application (application (application (application (constant c' (q.raw ∷ q.abs ∷ [])) q.four.rel.term) A') B') T')
-quotient-named sig c raw abs R A B T q e = elim (bool_cases (same_name c (codes "Quotient") && is_counted sig c)) [
-  | inl t ↦
-      let x : Some (record { raw = raw; abs = abs; four = four_between raw abs R A B T }) ≡ Some q =
-      sym (if-true (same_name c (codes "Quotient") && is_counted sig c) (Some (record { raw = raw; abs = abs; four = four_between raw abs R A B T })) None t) ∙ e in
-      let y : record { raw = raw; abs = abs; four = four_between raw abs R A B T } ≡ q = cc in
-      (c, A, B, T, (λ i. application (application (application (application (constant c ((y i).raw ∷ (y i).abs ∷ [])) (y i).four.rel.term) A) B) T))
-  | inr t ↦ absurd (none-some q (sym (if-false (same_name c (codes "Quotient") && is_counted sig c)
-      (Some (record { raw = raw; abs = abs; four = four_between raw abs R A B T })) None t) ∙ e))
-]
-  where
-    none-some : (q : QuotientTheorem) → ◌≡◌ {A = Option QuotientTheorem} None (Some q) → ⊥
-    none-some q e = cc
-
-pub quotient-is : (sig : Signature) (t : TermTree) (q : QuotientTheorem) → as_quotient sig t ≡ Some q
-    → (c : Chars) × (A : TermTree) × (B : TermTree) × (T : TermTree)
-    × (t ≡ application (application (application (application (constant c (q.raw ∷ q.abs ∷ [])) q.four.rel.term) A) B) T)
-quotient-is sig (free_variable x ty) q e = absurd (cc)
-quotient-is sig (bound_name x) q e = absurd (cc)
-quotient-is sig (constant c ts) q e = absurd (cc)
-quotient-is sig (abstraction x ty b) q e = absurd (cc)
-quotient-is sig (application (free_variable x ty) T) q e = absurd (cc)
-quotient-is sig (application (bound_name x) T) q e = absurd (cc)
-quotient-is sig (application (constant c ts) T) q e = absurd (cc)
-quotient-is sig (application (abstraction x ty b) T) q e = absurd (cc)
-quotient-is sig (application (application (free_variable x ty) B) T) q e = absurd (cc)
-quotient-is sig (application (application (bound_name x) B) T) q e = absurd (cc)
-quotient-is sig (application (application (constant c ts) B) T) q e = absurd (cc)
-quotient-is sig (application (application (abstraction x ty b) B) T) q e = absurd (cc)
-quotient-is sig (application (application (application (free_variable x ty) A) B) T) q e = absurd (cc)
-quotient-is sig (application (application (application (bound_name x) A) B) T) q e = absurd (cc)
-quotient-is sig (application (application (application (constant c ts) A) B) T) q e = absurd (cc)
-quotient-is sig (application (application (application (abstraction x ty b) A) B) T) q e = absurd (cc)
-quotient-is sig (application (application (application (application (free_variable x ty) R) A) B) T) q e = absurd (cc)
-quotient-is sig (application (application (application (application (bound_name x) R) A) B) T) q e = absurd (cc)
-quotient-is sig (application (application (application (application (application f g) R) A) B) T) q e = absurd (cc)
-quotient-is sig (application (application (application (application (abstraction x ty b) R) A) B) T) q e = absurd (cc)
-quotient-is sig (application (application (application (application (constant c []) R) A) B) T) q e = absurd (cc)
-quotient-is sig (application (application (application (application (constant c (t ∷ [])) R) A) B) T) q e = absurd (cc)
-quotient-is sig (application (application (application (application (constant c (t ∷ u ∷ w ∷ ts)) R) A) B) T) q e = absurd (cc)
-quotient-is sig (application (application (application (application (constant c (raw ∷ abs ∷ [])) R) A) B) T) q e = quotient-named sig c raw abs R A B T q e
-
-theorem-sound : (sig : Signature) (t : TermTree) (q : QuotientTheorem) → HasType sig [] t bool → as_quotient sig t ≡ Some q → type_fault sig q.raw ≡ None
-theorem-sound sig t q h e =
-    let k = quotient-is sig t q e in
-    let w : HasType sig [] (application (application (application (application (constant k.0 (q.raw ∷ q.abs ∷ [])) q.four.rel.term) k.1) k.2) k.3) bool =
+theorem-sound : (sig : Signature) (l : Chars) (t : TermTree) (q : QuotientEntry) → HasType sig [] t bool → as_quotient sig l t ≡ Some q
+    → type_fault sig q.raw_type ≡ None
+theorem-sound sig l t q h e =
+    let k = quotient-is sig l t q e in
+    let w : HasType sig [] (application (application (application (application (constant k.0 (q.raw_type ∷ q.abs_type ∷ [])) q.four.rel.term) k.1) k.2) k.3) bool =
     subst (λ (u : TermTree). HasType sig [] u bool) k.4 h in
-    (both-none (type_fault sig q.raw) (types_fault sig (row (q.abs ∷ []))) w.1.1.1.1.3).0
+    (both-none (type_fault sig q.raw_type) (types_fault sig (row (q.abs_type ∷ []))) w.1.1.1.1.3).0
 
 -- a relation on one type
 sides-named : (c d : Chars) (from to truth : TypeTree) (p : TypeTree × TypeTree)
@@ -371,9 +326,9 @@ in-rows s h (lifting_command l) = λ t e n quot f m x g o p q u v items a w. (
   tt,
   (
     record {
-      named = refl;
-      sound = theorem-sound s.context.signature t quot (theory-stated s h.theory l t e) f;
-      order = test-holds (is_in_order s.context.signature quot.raw quot.abs) "order" p;
+      named = (quotient-is s.context.signature l t quot f).5;
+      sound = theorem-sound s.context.signature l t quot (theory-stated s h.theory l t e) f;
+      order = test-holds (is_in_order s.context.signature quot.raw_type quot.abs_type) "order" p;
     },
     (tt, (tt, (tt, (tt, tt)))),
   ),

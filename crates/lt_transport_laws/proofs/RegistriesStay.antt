@@ -12,7 +12,8 @@ use Rattle.lt_transport_definitions.specs.Relations.{Relator, Registry, relator_
 use Rattle.lt_transport_definitions.specs.Answers.{needs_test, wrong_where, first_wrong}
 use Rattle.lt_transport_definitions.specs.Reading.{arity_of}
 use Rattle.lt_transport_definitions.specs.RuleForm.{TransferRule}
-use Rattle.lt_transport_definitions.specs.RelatorForm.{type_number, relator_type, mapping_type, equality_statement, quotient_statement, composition_statement, states, relator_form}
+use Rattle.lt_transport_definitions.specs.Notation.{◌⇒◌, ◌~◌}
+use Rattle.lt_transport_definitions.specs.RelatorForm.{type_number, lifted_type, equality_statement, quotient_statement, composition_statement, states, relator_form}
 use Rattle.lt_transport_definitions.specs.Sessions.{Session, signature_of}
 use Rattle.lt_texts.specs.Commands.{Command, item_command, law_command, corr_command, relator_command, property_command, domain_command, rule_command, lifting_command, lifting_typedef_command, quotient_type_command, lift_command, parametric_command, param_rule_command, equiv_command, implies_command, carry_command, abs_eq_command, rep_eq_command}
 use Rattle.lt_transport_definitions.specs.Commands.{CommandRefusal, as_item, rule_registered, Block, with_registration, session_behind}
@@ -84,11 +85,11 @@ form-same sig r eq quot comp x h =
     let r6 : Result Relator Chars = needs_test (is_counted sig (codes "relcompp") && states comp (composition_statement r.con r.rel ns)) (codes "O") (Ok r) in
     let r5 : Result Relator Chars = needs_test (is_counted sig (codes "Quotient") && states quot (quotient_statement r.con r.rel r.mapping ns)) (codes "Q") r6 in
     let r4 : Result Relator Chars = needs_test (states eq (equality_statement r.con r.rel ss)) (codes "E") r5 in
-    let r3 : Result Relator Chars = needs_test (is_declared_as sig r.mapping (mapping_type r.con ss ts)) (codes "M") r4 in
-    let r2 : Result Relator Chars = needs_test (is_declared_as sig r.rel (relator_type r.con ss ts)) (codes "R") r3 in
+    let r3 : Result Relator Chars = needs_test (is_declared_as sig r.mapping (lifted_type ◌⇒◌ r.con ss ts)) (codes "M") r4 in
+    let r2 : Result Relator Chars = needs_test (is_declared_as sig r.rel (lifted_type ◌~◌ r.con ss ts)) (codes "R") r3 in
     let h2 = test-ok (not (same_name r.con (codes "fun")) && nat_lt 0 n) (codes "K") r2 x h in
-    let h3 = test-ok (is_declared_as sig r.rel (relator_type r.con ss ts)) (codes "R") r3 x h2 in
-    let h4 = test-ok (is_declared_as sig r.mapping (mapping_type r.con ss ts)) (codes "M") r4 x h3 in
+    let h3 = test-ok (is_declared_as sig r.rel (lifted_type ◌~◌ r.con ss ts)) (codes "R") r3 x h2 in
+    let h4 = test-ok (is_declared_as sig r.mapping (lifted_type ◌⇒◌ r.con ss ts)) (codes "M") r4 x h3 in
     let h5 = test-ok (states eq (equality_statement r.con r.rel ss)) (codes "E") r5 x h4 in
     let h6 = test-ok (is_counted sig (codes "Quotient") && states quot (quotient_statement r.con r.rel r.mapping ns)) (codes "Q") r6 x h5 in
     let h7 = test-ok (is_counted sig (codes "relcompp") && states comp (composition_statement r.con r.rel ns)) (codes "O") (Ok r) x h6 in

@@ -12,9 +12,9 @@ use Rattle.lt_transport_definitions.specs.Patterns.{relation_sides}
 use Rattle.lt_transport_definitions.specs.Relations.{Relation, relation_variable, equality, constructed, Relations, no_relations, relation_and, Registry, form_for, Kind, no_constructor, a_relator, a_correspondence, a_form, kind_of}
 use Rattle.lt_transport_definitions.specs.Expressions.{left_of, left, lefts, right_of, right, rights, MayHave, IsExpression, AreExpressions}
 use Rattle.lt_transport_definitions.specs.RelationTerms.{sides_of_relation, forced_types, written, written_list, relation_term}
-use Rattle.lt_transport_definitions.specs.RelatorForm.{interleaved, functions_from}
+use Rattle.lt_transport_definitions.specs.RelatorForm.{functions_from}
 use Rattle.lt_transport_laws.specs.Statements.{IsRegistry}
-use Rattle.lt_transport_laws.specs.ImageStatements.{relations_between, IsSoundRegistry}
+use Rattle.lt_transport_laws.specs.ImageStatements.{interleaved, relations_between, IsSoundRegistry}
 
 row-listed : (ts : TypeTrees) → row (listed ts) ≡ ts
 row-listed no_types = refl

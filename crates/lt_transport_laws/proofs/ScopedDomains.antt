@@ -1,8 +1,8 @@
 -- The domains that commands register have their binders.
 use Rattle.std.specs.Prelude.{◌≡◌, List, [], ◌∷◌, ◌++◌, Bool, true, false, ◌||◌, ◌&&◌, not, if◌then◌else◌, Option, Some, None, codes, fold, option_map, option_and_then, option_to_list}
-use Rattle.std.specs.List.{list_all, list_any}
+use Rattle.std.specs.List.{list_any}
 use Rattle.std.proofs.Common.{refl, subst}
-use Rattle.lt_definitions.specs.Types.{Chars, same_name, has_name, TypeTree, bool, fun}
+use Rattle.lt_definitions.specs.Types.{Chars, same_name, TypeTree, bool, fun}
 use Rattle.lt_definitions.specs.Terms.{TermTree, free_variable, bound_name, constant, application, abstraction, term_names, has_loose, HasNoLooseNames}
 use Rattle.lt_definitions.specs.Typing.{Signature, typed}
 use Rattle.lt_definitions.specs.Rules.{as_equation, type_of}
@@ -12,20 +12,22 @@ use Rattle.lt_transport_definitions.specs.Notation.{WithType}
 use Rattle.lt_transport_definitions.specs.Patterns.{relation_sides}
 use Rattle.lt_transport_definitions.specs.Relations.{DomainRule, Registry}
 use Rattle.lt_transport_definitions.specs.Reading.{body_of, prefix_of}
-use Rattle.lt_transport_definitions.specs.Forms.{domain_head, domain_equation, domain_form}
+use Rattle.lt_transport_definitions.specs.Forms.{are_among, domain_head, domain_form}
 use Rattle.lt_transport_definitions.specs.RuleForm.{TransferRule}
-use Rattle.lt_transport_definitions.specs.Sessions.{Session}
+use Rattle.lt_transport_definitions.specs.Sessions.{QuotientEntry, Session}
 use Rattle.lt_texts.specs.Commands.{Command, item_command, law_command, corr_command, relator_command, property_command, domain_command, rule_command, lifting_command, lifting_typedef_command, quotient_type_command, lift_command, parametric_command, param_rule_command, equiv_command, implies_command, carry_command, abs_eq_command, rep_eq_command}
 use Rattle.lt_transport_definitions.specs.Commands.{Registration, law_registered, corr_registered, relator_registered, form_registered, property_registered, domain_registered, rule_registered, quotient_registered, lifted_registered, transport_registered, Block, with_registration}
-use Rattle.lt_transport_definitions.specs.QuotientBlocks.{QuotientTheorem, as_quotient, self_related}
+use Rattle.lt_transport_definitions.specs.QuotientBlocks.{as_quotient, self_related}
 use Rattle.lt_transport_definitions.specs.QuotientRows.{is_relation_on_one}
 use Rattle.lt_transport_definitions.specs.Table.{row_of}
 use Rattle.lt_transport_laws.specs.SessionStatements.{AreScopedDomains}
 use Rattle.lt_transport_laws.specs.OrderStatements.{IsOrderedSession}
+use Rattle.lt_transport_laws.proofs.FormLabels.{domain_equation}
 use Rattle.lt_transport_laws.proofs.LooseNames.{head-none, argument-none}
-use Rattle.lt_transport_laws.proofs.OrderedSessions.{test-holds, quotient-is, relation-is, related-typed, found-typedef}
+use Rattle.lt_transport_laws.proofs.OrderedSessions.{test-holds, relation-is, related-typed, found-typedef}
 use Rattle.lt_transport_laws.proofs.RowFacts.{EachBlock}
 use Rattle.lt_transport_laws.proofs.ScopedRules.{body-none}
+use Rattle.lt_transport_laws.proofs.TheoremForms.{quotient-is}
 use Rattle.lt_transport_laws.proofs.TheorySessions.{theory-stated}
 
 -- an optional domain equation whose domain has its binders
@@ -71,7 +73,7 @@ form-scoped : (sig : Signature) (G : Registry) (l : Chars) (t : TermTree) → Ha
 form-scoped sig G l t h = then-scoped _ (prefix_of t) (λ xs a.
     then-scoped (domain_equation sig G l xs) (as_equation (body_of t)) (λ e b.
     let side : HasNoLooseNames e.2 = subst IsScopedSide b (equation-side (body_of t) (body-none t h)) in
-    then-scoped _ (domain_head sig G xs e.1) (λ head c. rule-if (list_all (λ v. has_name v (term_names e.1)) (term_names e.2)) _ side)))
+    then-scoped _ (domain_head sig G xs e.1) (λ head c. rule-if (are_among (term_names e.2) (term_names e.1)) _ side)))
 
 -- \x. R x x
 self-binder : (a l : Bool) → l ≡ false → (not a && ((l || a) || a)) ≡ false
@@ -83,15 +85,15 @@ self-none : (raw : TypeTree) (R : WithType) → HasNoLooseNames R.term → HasNo
 self-none raw R h z = self-binder (same_name z (codes "x")) (has_loose z R.term) (h z)
 
 -- the relation of a theorem
-theorem-none : (sig : Signature) (t : TermTree) (q : QuotientTheorem) → HasNoLooseNames t → as_quotient sig t ≡ Some q → HasNoLooseNames q.four.rel.term
-theorem-none sig t q h e =
-    let k = quotient-is sig t q e in
-    let w : HasNoLooseNames (application (application (application (application (constant k.0 (q.raw ∷ q.abs ∷ [])) q.four.rel.term) k.1) k.2) k.3) =
+theorem-none : (sig : Signature) (l : Chars) (t : TermTree) (q : QuotientEntry) → HasNoLooseNames t → as_quotient sig l t ≡ Some q → HasNoLooseNames q.four.rel.term
+theorem-none sig l t q h e =
+    let k = quotient-is sig l t q e in
+    let w : HasNoLooseNames (application (application (application (application (constant k.0 (q.raw_type ∷ q.abs_type ∷ [])) q.four.rel.term) k.1) k.2) k.3) =
     subst HasNoLooseNames k.4 h in
-    argument-none (constant k.0 (q.raw ∷ q.abs ∷ [])) q.four.rel.term
-    (head-none (application (constant k.0 (q.raw ∷ q.abs ∷ [])) q.four.rel.term) k.1
-    (head-none (application (application (constant k.0 (q.raw ∷ q.abs ∷ [])) q.four.rel.term) k.1) k.2
-    (head-none (application (application (application (constant k.0 (q.raw ∷ q.abs ∷ [])) q.four.rel.term) k.1) k.2) k.3 w)))
+    argument-none (constant k.0 (q.raw_type ∷ q.abs_type ∷ [])) q.four.rel.term
+    (head-none (application (constant k.0 (q.raw_type ∷ q.abs_type ∷ [])) q.four.rel.term) k.1
+    (head-none (application (application (constant k.0 (q.raw_type ∷ q.abs_type ∷ [])) q.four.rel.term) k.1) k.2
+    (head-none (application (application (application (constant k.0 (q.raw_type ∷ q.abs_type ∷ [])) q.four.rel.term) k.1) k.2) k.3 w)))
 
 related-none : (sig : Signature) (r : TermTree) → is_relation_on_one (type_of sig r) ≡ true → HasNoLooseNames r
 related-none sig r h =
@@ -157,9 +159,9 @@ scoped-rows s h (domain_command l) = λ t e rule f n. (
 )
 scoped-rows s h (rule_command l) = λ t e rule f n. (tt, tt)
 scoped-rows s h (lifting_command l) = λ t e n quot f m x g o p q u v.
-    let R : HasNoLooseNames quot.four.rel.term = theorem-none s.context.signature t quot
+    let R : HasNoLooseNames quot.four.rel.term = theorem-none s.context.signature l t quot
     (typed_terms_have_no_loose_names s.context.signature t bool (theory-stated s h.theory l t e)) f in
-    (tt, (tt, (tt, (tt, (tt, (self-none quot.raw quot.four.rel R, tt))))))
+    (tt, (tt, (tt, (tt, (tt, (self-none quot.raw_type quot.four.rel R, tt))))))
 scoped-rows s h (lifting_typedef_command q) = λ n t e m.
     let o = found-typedef s.context.signature s.typedefs q t h.typedefs e in (
       tt,

@@ -1,31 +1,35 @@
 -- The raw sides of rules that are read from statements without loose names have none.
 use Rattle.std.specs.Prelude.{◌≡◌, ℕ, ◌+◌, List, [], ◌∷◌, Bool, true, false, ◌&&◌, not, Option, Some, None, Result, codes, option_and_then}
+use Rattle.std.specs.Result.{result_ok}
 use Rattle.std.specs.List.{filter_map, cons_option}
 use Rattle.std.proofs.Common.{refl, subst, sym, ap, ◌∙◌, inl, inr}
-use Rattle.lt_definitions.specs.Types.{Chars, same_name, found}
+use Rattle.lt_definitions.specs.Types.{Chars, same_name, found, TypeTree}
 use Rattle.lt_definitions.specs.Terms.{TermTree, free_variable, bound_name, constant, application, abstraction, has_loose, HasNoLooseNames}
 use Rattle.lt_definitions.specs.Typing.{Signature}
 use Rattle.lt_definitions.proofs.SameNames.{bool_cases}
 use Rattle.lt_nameless.proofs.BindingLemmas.{if-true, if-false}
-use Rattle.lt_transport_definitions.specs.Relations.{Property, RelationVariable, Registry}
-use Rattle.lt_transport_definitions.specs.Answers.{needs_test, needs, value_of}
-use Rattle.lt_transport_definitions.specs.Reading.{binders, behind_binders, relation_name, opened_from, body_of, prefix_of, read_relation}
-use Rattle.lt_transport_definitions.specs.RuleForm.{TransferRule, side_before, Conditioned, with_side, conditioned, Related, as_related, are_types_right, rule_form}
+use Rattle.lt_transport_definitions.specs.Relations.{Property, Sides, RelationVariable, Registry}
+use Rattle.lt_transport_definitions.specs.Answers.{needs_test, needs}
+use Rattle.lt_transport_definitions.specs.Reading.{quantified, relation_name, opened_from, body_of, prefix_of, read_relation}
+use Rattle.lt_transport_definitions.specs.RuleForm.{TransferRule, with_side, conditioned, as_related, are_types_right, rule_form}
 use Rattle.lt_transport_definitions.specs.Sessions.{Session, rule_now, rules_now}
 use Rattle.lt_transport_laws.specs.SessionStatements.{AreScopedStatements}
 use Rattle.lt_transport_laws.proofs.Rows.{AllOf}
 use Rattle.lt_transport_laws.proofs.LooseNames.{opened-loose, variable-none, head-none, argument-none}
 
 -- opening the quantifiers of a statement leaves its loose names
-body-loose : (z : Chars) (i : ℕ) (t : TermTree) → has_loose z (opened_from i (binders t) (behind_binders t)) ≡ has_loose z t
+body-loose : (z : Chars) (i : ℕ) (t : TermTree) → has_loose z (opened_from i (quantified t).0 (quantified t).1) ≡ has_loose z t
 body-loose z i (application (constant c ts) (abstraction x ty b)) = elim (bool_cases (same_name c (codes "all"))) [
-  | inl s ↦ (λ j. has_loose z (opened_from i (if-true (same_name c (codes "all")) ((x, ty) ∷ binders b) [] s j)
-      (if-true (same_name c (codes "all")) (behind_binders b) (application (constant c ts) (abstraction x ty b)) s j)))
-      ∙ opened-loose z x (free_variable (relation_name i) ty) (opened_from (i + 1) (binders b) (behind_binders b)) (variable-none (relation_name i) ty)
+  | inl s ↦ (λ j. loose-of (if-true (same_name c (codes "all")) ((x, ty) ∷ (quantified b).0, (quantified b).1)
+      ([], application (constant c ts) (abstraction x ty b)) s j))
+      ∙ opened-loose z x (free_variable (relation_name i) ty) (opened_from (i + 1) (quantified b).0 (quantified b).1) (variable-none (relation_name i) ty)
       ∙ ap (λ l. not (same_name z x) && l) (body-loose z (i + 1) b)
-  | inr s ↦ (λ j. has_loose z (opened_from i (if-false (same_name c (codes "all")) ((x, ty) ∷ binders b) [] s j)
-      (if-false (same_name c (codes "all")) (behind_binders b) (application (constant c ts) (abstraction x ty b)) s j)))
+  | inr s ↦ (λ j. loose-of (if-false (same_name c (codes "all")) ((x, ty) ∷ (quantified b).0, (quantified b).1)
+      ([], application (constant c ts) (abstraction x ty b)) s j))
 ]
+  where
+    loose-of : List (Chars × TypeTree) × TermTree → Bool
+    loose-of p = has_loose z (opened_from i p.0 p.1)
 body-loose z i (application (constant c ts) (free_variable x ty)) = refl
 body-loose z i (application (constant c ts) (bound_name x)) = refl
 body-loose z i (application (constant c ts) (constant d us)) = refl
@@ -42,15 +46,15 @@ body-loose z i (abstraction x ty b) = refl
 pub body-none : (t : TermTree) → HasNoLooseNames t → HasNoLooseNames (body_of t)
 body-none t h z = body-loose z 1 t ∙ h z
 
-with_side-none : (o : Option (Property × ℕ)) (whole : TermTree) (behind : Conditioned) → HasNoLooseNames whole → HasNoLooseNames behind.rest
-    → HasNoLooseNames (with_side o whole behind).rest
+with_side-none : (o : Option (Property × ℕ)) (whole : TermTree) (behind : Sides × TermTree) → HasNoLooseNames whole → HasNoLooseNames behind.1
+    → HasNoLooseNames (with_side o whole behind).1
 with_side-none None whole behind h k = h
 with_side-none (Some side) whole behind h k = k
 
 -- nor has what stands behind side conditions any
-rest-none : (sig : Signature) (xs : List RelationVariable) (t : TermTree) → HasNoLooseNames t → HasNoLooseNames (conditioned sig xs t).rest
+rest-none : (sig : Signature) (xs : List RelationVariable) (t : TermTree) → HasNoLooseNames t → HasNoLooseNames (conditioned sig xs t).1
 rest-none sig xs (application (application (constant c ts) p) q) h =
-    with_side-none (side_before sig xs c p) (application (application (constant c ts) p) q) (conditioned sig xs q) h
+    with_side-none _ (application (application (constant c ts) p) q) (conditioned sig xs q) h
     (rest-none sig xs q (argument-none (application (constant c ts) p) q h))
 rest-none sig xs (application (application (free_variable x ty) p) q) h = h
 rest-none sig xs (application (application (bound_name x) p) q) h = h
@@ -66,9 +70,9 @@ rest-none sig xs (constant c ts) h = h
 rest-none sig xs (abstraction x ty b) h = h
 
 -- nor a raw side
-abbrev IsScopedRelated : Option Related → Type 0
+abbrev IsScopedRelated : Option (TermTree × TermTree × Chars × List TypeTree) → Type 0
 IsScopedRelated None = Unit {0}
-IsScopedRelated (Some r) = HasNoLooseNames r.raw
+IsScopedRelated (Some r) = HasNoLooseNames r.1
 
 related-none : (t : TermTree) → HasNoLooseNames t → IsScopedRelated (as_related t)
 related-none (application (application r raw) (constant c ts)) h =
@@ -95,24 +99,24 @@ IsScopedOption (Some rule) = IsScopedRule rule
 
 -- what is said of a result holds where nothing is wrong before it
 needs-scoped : {A : Type 0} (o : Option A) (e : Chars) (f : A → Result TransferRule Chars)
-    → ((x : A) → o ≡ Some x → IsScopedOption (value_of (f x))) → IsScopedOption (value_of (needs o e f))
+    → ((x : A) → o ≡ Some x → IsScopedOption (result_ok (f x))) → IsScopedOption (result_ok (needs o e f))
 needs-scoped (Some x) e f h = h x refl
 needs-scoped None e f h = tt
 
-test-scoped : (b : Bool) (e : Chars) (r : Result TransferRule Chars) → IsScopedOption (value_of r) → IsScopedOption (value_of (needs_test b e r))
+test-scoped : (b : Bool) (e : Chars) (r : Result TransferRule Chars) → IsScopedOption (result_ok r) → IsScopedOption (result_ok (needs_test b e r))
 test-scoped true e r h = h
 test-scoped false e r h = tt
 
-form-scoped : (sig : Signature) (G : Registry) (l : Chars) (t : TermTree) → HasNoLooseNames t → IsScopedOption (value_of (rule_form sig G l t))
+form-scoped : (sig : Signature) (G : Registry) (l : Chars) (t : TermTree) → HasNoLooseNames t → IsScopedOption (result_ok (rule_form sig G l t))
 form-scoped sig G l t h = needs-scoped (prefix_of t) (codes "Prefix") _ (λ xs e.
-    needs-scoped (as_related (conditioned sig xs (body_of t)).rest) (codes "Head") _ (λ found d.
-    let raw : HasNoLooseNames found.raw =
-    subst IsScopedRelated d (related-none (conditioned sig xs (body_of t)).rest (rest-none sig xs (body_of t) (body-none t h))) in
-    needs-scoped (read_relation sig G xs found.relation) (codes "Relation") _ (λ r c.
-    test-scoped (are_types_right xs t found.pattern r) (codes "Types") _ raw)))
+    needs-scoped (as_related (conditioned sig xs (body_of t)).1) (codes "Head") _ (λ found d.
+    let raw : HasNoLooseNames found.1 =
+    subst IsScopedRelated d (related-none (conditioned sig xs (body_of t)).1 (rest-none sig xs (body_of t) (body-none t h))) in
+    needs-scoped (read_relation sig G xs found.0) (codes "Relation") _ (λ r c.
+    test-scoped (are_types_right xs t found.3 r) (codes "Types") _ raw)))
 
 rule_of-scoped : (sig : Signature) (G : Registry) (l : Chars) (o : Option TermTree) → ((t : TermTree) → o ≡ Some t → HasNoLooseNames t)
-    → IsScopedOption (option_and_then (λ t. value_of (rule_form sig G l t)) o)
+    → IsScopedOption (option_and_then (λ t. result_ok (rule_form sig G l t)) o)
 rule_of-scoped sig G l None h = tt
 rule_of-scoped sig G l (Some t) h = form-scoped sig G l t (h t refl)
 

@@ -12,7 +12,7 @@ use Rattle.lt_transport_definitions.specs.Relations.{Relation, relation_variable
 use Rattle.lt_transport_definitions.specs.Expressions.{abstract_type, variables_of, left_of, left, right, IsExpression, implication}
 use Rattle.lt_transport_definitions.specs.RelationTerms.{domain_of}
 use Rattle.lt_transport_definitions.specs.RuleForm.{TransferRule}
-use Rattle.lt_transport_definitions.specs.RelatorForm.{interleaved, functions_from}
+use Rattle.lt_transport_definitions.specs.RelatorForm.{functions_from}
 use Rattle.lt_transport_definitions.specs.Search.{Question, Solution, IsWhole, image_by}
 use Rattle.lt_transport_laws.specs.Statements.{IsRegistry, IsTyped}
 
@@ -85,6 +85,11 @@ pub record IsSoundRule (G : Registry) (sig : Signature) (rule : TransferRule) : 
 abbrev pub AreSoundRules : Registry → Signature → List TransferRule → Type 0
 AreSoundRules G sig [] = Unit {0}
 AreSoundRules G sig (rule ∷ rules) = IsSoundRule G sig rule × AreSoundRules G sig rules
+
+-- types, one of each list after the other
+abbrev pub interleaved : List TypeTree → List TypeTree → List TypeTree
+interleaved (t ∷ ts) (u ∷ us) = t ∷ u ∷ interleaved ts us
+interleaved _ _ = []
 
 -- relations between types at the same places
 abbrev pub relations_between : TypeTrees → TypeTrees → List TypeTree

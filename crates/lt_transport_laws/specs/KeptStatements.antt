@@ -34,7 +34,7 @@ abbrev pub SessionsAreKept : Type 0
 SessionsAreKept = (s : Session) (c : Command) (items : List Item) (later : Session)
     → IsKeptSession s → Gives s c items later → IsKeptSession later
 
--- It meets the premise under which one outcome comes of each command.
+-- It meets the premise under which at most one outcome comes of each command.
 abbrev pub KeptSessionsAreScoped : Type 0
 KeptSessionsAreScoped = (s : Session) → IsKeptSession s → IsScopedSession s
 
@@ -43,7 +43,7 @@ abbrev pub KeptStatementsAreBoolean : Type 0
 KeptStatementsAreBoolean = (s : Session) (l : Chars) (p : TermTree) → IsKeptSession s
     → found l s.context.statements ≡ Some p → HasType (signature_of s) [] p bool
 
--- A walk from such a session has one end.
+-- A walk from such a session has at most one end.
 abbrev pub WalksAreOne : Type 0
 WalksAreOne =
     (limit : ℕ) (s : Session) (at : Left) (blocks others : List (List Item))
@@ -51,13 +51,13 @@ WalksAreOne =
     → IsKeptSession s → WalksOn (theory_commands limit) s at blocks end
     → WalksOn (theory_commands limit) s at others other → end ≡ other
 
--- A run over a text has one end.
+-- A run over a text has at most one end.
 abbrev pub RunsHaveOneEnd : Type 0
 RunsHaveOneEnd =
     (limit : ℕ) (text : List ℕ) (blocks others : List (List Item)) (end other : End CommandRefusal)
     → RunsText limit text blocks end → RunsText limit text others other → end ≡ other
 
--- A run over a text has one summary: two runs differ in the lines of lemmas alone.
+-- A run over a text has at most one summary: two runs differ in the lines of lemmas alone.
 abbrev pub RunsHaveOneSummary : Type 0
 RunsHaveOneSummary =
     (limit : ℕ) (text : List ℕ) (blocks others : List (List Item)) (end other : End CommandRefusal)

@@ -1,6 +1,6 @@
 -- What the laws say on the order in which a session's quotients are declared.
 -- Source: this project's own.
-use Rattle.std.specs.Prelude.{◌≡◌, ℕ, List, [], ◌∷◌, true, None, Ok}
+use Rattle.std.specs.Prelude.{◌≡◌, ℕ, List, [], ◌∷◌, Bool, true, false, None, Ok}
 use Rattle.lt_definitions.specs.Types.{TypeTree, bool, fun}
 use Rattle.lt_definitions.specs.Typing.{Signature, type_fault, typed}
 use Rattle.lt_definitions.specs.Items.{Item, empty, new_type, context_of}
@@ -8,8 +8,10 @@ use Rattle.lt_definitions.specs.Theory.{IsPlainTheory}
 use Rattle.lt_transport_definitions.specs.Sessions.{Typedef, Session, new_session, signature_of}
 use Rattle.lt_transport_definitions.specs.Quotients.{Quot, IsQuotBetween}
 use Rattle.lt_transport_definitions.specs.QuotientBlocks.{is_in_order}
-use Rattle.lt_texts.specs.Commands.{Command}
-use Rattle.lt_transport_definitions.specs.Blocks.{Gives}
+use Rattle.lt_texts.specs.Commands.{Command, abs_eq_command, rep_eq_command}
+use Rattle.lt_transport_definitions.specs.Blocks.{ComesOf, Gives}
+use Rattle.lt_transport_definitions.specs.Rows.{BlockOutcome}
+use Rattle.lt_transport_laws.specs.Statements.{is_transport}
 use Rattle.lt_transport_laws.specs.QuotientStatements.{AreInOrder}
 
 -- What a session declares and states is what a valid plain theory does.
@@ -48,3 +50,14 @@ abbrev pub SessionsHaveQuotients : Type 0
 SessionsHaveQuotients = (s : Session) (abs raw : TypeTree) → IsOrderedSession s
     → type_fault (signature_of s) abs ≡ None → type_fault (signature_of s) raw ≡ None
     → (q : Quot) × IsQuotBetween s.registry s.quotients abs raw q
+
+-- whether a command asks for an image, or for the quotient with which a constant was lifted before
+abbrev pub asks_more : Command → Bool
+asks_more (abs_eq_command c) = true
+asks_more (rep_eq_command c) = true
+asks_more c = is_transport c
+
+-- Some outcome comes of each other command in such a session.
+abbrev pub OutcomesExist : Type 0
+OutcomesExist = (s : Session) (c : Command) → IsOrderedSession s → asks_more c ≡ false
+    → (o : BlockOutcome) × ComesOf s c o

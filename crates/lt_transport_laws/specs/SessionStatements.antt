@@ -1,5 +1,5 @@
 -- What the laws on sessions and walks say.
-use Rattle.std.specs.Prelude.{◌≡◌, ℕ, List, [], ◌∷◌, Some, Ok, IsSome, map, codes}
+use Rattle.std.specs.Prelude.{◌≡◌, ℕ, List, [], ◌∷◌, Some, Ok, Err, IsSome, map, codes}
 use Rattle.std.specs.List.{flat_map}
 use Rattle.lt_definitions.specs.Types.{Chars, found}
 use Rattle.lt_definitions.specs.Terms.{TermTree, HasNoLooseNames}
@@ -10,13 +10,15 @@ use Rattle.lt_transport_definitions.specs.Relations.{Relator, Parametrised, Doma
 use Rattle.lt_transport_definitions.specs.Sessions.{LiftedEntry, Session, signature_of}
 use Rattle.lt_definitions.specs.Printing.{report, summary_lines, count_line}
 use Rattle.lt_texts.specs.Texts.{Left}
+use Rattle.lt_texts.specs.Files.{File}
 use Rattle.lt_texts.specs.Commands.{Command}
-use Rattle.lt_walks.specs.Walks.{End, WalksOn}
+use Rattle.lt_walks.specs.Walks.{End, refused, place_of, WalksOn}
 use Rattle.lt_transport_definitions.specs.Commands.{CommandRefusal, Block, session_behind}
 use Rattle.lt_transport_definitions.specs.Rows.{BlockOutcome}
-use Rattle.lt_transport_definitions.specs.AlphaItems.{AreAlphaEqualItems}
+use Rattle.lt_transport_definitions.specs.AlphaItems.{AreAlphaEqualItems, RefusesAlike}
 use Rattle.lt_transport_definitions.specs.Blocks.{ComesOf, Gives}
-use Rattle.lt_transport_definitions.specs.TheoryWalks.{theory_commands, RunsText, items_of_blocks}
+use Rattle.lt_transport_definitions.specs.TheoryWalks.{line_of, theory_commands, RunsText, items_of_blocks}
+use Rattle.lt_transport_definitions.specs.Reports.{run_line}
 use Rattle.lt_transport_laws.specs.Statements.{IsRegistry}
 
 -- Named statements without loose bound names.
@@ -36,13 +38,13 @@ pub record IsScopedSession (s : Session) : Type 0 where
   pub statements : AreScopedStatements s.context.statements
   pub domains : AreScopedDomains s.registry.domain_rules
 
--- One outcome comes of each command, transports included.
+-- At most one outcome comes of each command, transports included.
 abbrev pub EachOutcomeIsOne : Type 0
 EachOutcomeIsOne =
     (s : Session) (c : Command) (o p : BlockOutcome) → IsScopedSession s → ComesOf s c o
     → ComesOf s c p → o ≡ p
 
--- A command leads to one session.
+-- A command leads to at most one session.
 abbrev pub SessionsAreOne : Type 0
 SessionsAreOne =
     (s : Session) (c : Command) (xs ys : List Item) (later other : Session) → IsScopedSession s
@@ -66,6 +68,16 @@ AlikeItemsPrintAlike =
     (items others : List Item) → AreAlphaEqualItems items others
     → (report items ≡ report others) × (summary_lines items ≡ summary_lines others)
     × (count_line items ≡ count_line others)
+
+-- A refusal that a call may answer is written as the first one that applies, whatever the places of
+-- the command and of a lemma's lines.
+abbrev pub AlikeRefusalsPrintAlike : Type 0
+AlikeRefusalsPrintAlike =
+    (s : Session) (c : Command) (r : CommandRefusal) → RefusesAlike s c r
+    → (first : CommandRefusal) × ComesOf s c (Err first)
+    × ((files : List File) (from : ℕ) (lines : List ℕ)
+    → run_line files (refused first (place_of from lines (line_of first)))
+    ≡ run_line files (refused r (place_of from lines (line_of r))))
 
 -- A block leaves the registry one that meets what the laws ask, where bool is declared without
 -- arguments.

@@ -10,13 +10,13 @@ pub fn sessions_are_kept()
     ensures boolean { KeptStatementsAreBoolean }
 {}
 
-/// A walk from such a session has one end, so a run over a text has.
+/// A walk from such a session has at most one end, so a run over a text has.
 pub fn walks_are_one()
     ensures walk { WalksAreOne }
     ensures run { RunsHaveOneEnd }
 {}
 
-/// A run over a text has one summary.
+/// A run over a text has at most one summary.
 pub fn runs_have_one_summary()
     ensures { RunsHaveOneSummary }
 {}

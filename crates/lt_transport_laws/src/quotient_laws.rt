@@ -1,6 +1,6 @@
 //! Laws of quotients between types. Each function does nothing: its contract is the law.
 ghost use Rattle.lt_transport_laws.specs.QuotientStatements.{QuotientsExist};
-ghost use Rattle.lt_transport_laws.specs.OrderStatements.{NewSessionsAreOrdered, SessionsStayOrdered, SessionsHaveQuotients};
+ghost use Rattle.lt_transport_laws.specs.OrderStatements.{NewSessionsAreOrdered, SessionsStayOrdered, SessionsHaveQuotients, OutcomesExist};
 
 /// Between two types without a fault there is a quotient, where the raw type of each registered one
 /// is declared before its abstract type.
@@ -14,4 +14,10 @@ pub fn sessions_stay_ordered()
     ensures new { NewSessionsAreOrdered }
     ensures kept { SessionsStayOrdered }
     ensures exist { SessionsHaveQuotients }
+{}
+
+/// Some outcome comes in such a session of each command that asks for no image, and not for the
+/// quotient with which a constant was lifted before.
+pub fn outcomes_exist()
+    ensures { OutcomesExist }
 {}

@@ -11,7 +11,7 @@ pub fn steps_are_one()
     ensures redex { (s u : TermTree) → Steps s u → has_redex s ≡ true }
 {}
 
-/// A term has one normal form, or else one limit.
+/// A term has at most one normal form, or else at most one limit.
 pub fn normal_forms_are_one()
     ensures normal { (t u w : TermTree) → HasNoLooseNames t → IsNormalForm t u → IsNormalForm t w
         → IsAlphaEqual u w }

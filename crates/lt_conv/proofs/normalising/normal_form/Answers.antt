@@ -3,11 +3,14 @@ use Rattle.lt_store.specs.Trees.{tree_at}
 use Rattle.lt_reductions.specs.Reducts.{nodes_over, normal_form_of}
 use Rattle.lt_conv.specs.Machines.{spot}
 use Rattle.lt_conv.proofs.Contracting.{counts-is, counts-more}
-use Rattle.lt_conv.proofs.Running.{running, leads-ends, goes-ends, ended-ends, goes-on-runs, starts-large, starts, down-smaller}
+use Rattle.lt_conv.proofs.Running.{running, leads-ends, goes-ends, ended-ends, goes-on-runs, is-large-at-once, starts-large, starts, down-smaller}
 use Rattle.lt_conv.proofs.normalising.normal_form.Goals as goal
 
 pub count-requires-clause-most : goal.count-requires-clause-most
 count-requires-clause-most g c = omega arith
+
+pub returns-then-large-clause-ends : goal.returns-then-large-clause-ends
+returns-then-large-clause-ends g c = is-large-at-once (tree_at c.args.proof.now.nodes c.args.t) (c.in_ok-large.ensures c.if-large.true)
 
 pub returns-in_default-clause-ends : goal.returns-in_default-clause-ends
 returns-in_default-clause-ends g c = let t = tree_at c.args.proof.now.nodes c.args.t in

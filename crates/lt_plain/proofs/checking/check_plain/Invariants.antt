@@ -1,4 +1,4 @@
-use Rattle.std.proofs.Common.{ℕ, length}
+use Rattle.std.proofs.Common.{length}
 use Rattle.lt_extend.specs.Theories.{items_of, IsInStep}
 use Rattle.lt_walks.proofs.OnTheWay.{ComesTo}
 use Rattle.lt_plain.specs.Stepping.{IsPlain}

@@ -1,6 +1,6 @@
 use Rattle.std.proofs.Common.{refl}
 use Rattle.lt_extend.specs.Theories.{context_behind}
-use Rattle.lt_plain.proofs.Steppings.{refuses_plain, next_plain, end_plain, next_allowed, stops_unread, steps_on, steps_end}
+use Rattle.lt_plain.proofs.Steppings.{refuses_plain, next_plain, stops_unread, steps_on, steps_end}
 use Rattle.lt_plain.proofs.checking.next_item.Goals as goal
 
 pub returns-in-Err-clause-steps : goal.returns-in-Err-clause-steps

@@ -1,7 +1,7 @@
 -- A text has one walk, so one that is accepted isn't refused, nor the other way round.
 use Rattle.std.proofs.Common.{rules, ◌≡◌, ◌⊎◌}
 use Rattle.lt_extend.specs.Theories.{items_of}
-use Rattle.lt_run.proofs.Told.{accepts_valid, refuses_wrong, two_alone}
+use Rattle.lt_run.proofs.Told.{accepts_valid, refuses_wrong, two_alone, written_alone}
 use Rattle.lt_run.proofs.sure.lt_sure.Goals as goal
 
 pub returns-clause-complete : goal.returns-clause-complete
@@ -20,3 +20,8 @@ pub returns-clause-other : goal.returns-clause-other
 returns-clause-other c = λ none.
     let known : (c.lt.result.status ≡ 0) ⊎ (c.lt.result.status ≡ 1) ⊎ (c.lt.result.status ≡ 2) ⊎ (c.lt.result.status ≡ 5) = search rules in
     two_alone c.lt.result.status (c.lt.ensures.other none) known
+
+pub returns-clause-written : goal.returns-clause-written
+returns-clause-written c = λ text asked.
+    let known : (c.lt.result.status ≡ 0) ⊎ (c.lt.result.status ≡ 1) ⊎ (c.lt.result.status ≡ 2) ⊎ (c.lt.result.status ≡ 5) = search rules in
+    written_alone c.lt.result.status c.args.words.now text asked known (λ one. let said = c.lt.ensures.refused one in (said.0, said.2)) (λ two. (c.lt.ensures.words two).0)
