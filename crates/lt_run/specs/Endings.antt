@@ -1,17 +1,17 @@
 -- What comes of the walk through files that were joined.
-use Rattle.std.specs.Prelude.{◌≡◌, ◌≢◌, ◌⊎◌, ℕ, List, [], Option}
+use Rattle.std.specs.Prelude.{◌≡◌, ◌⊎◌, ℕ, List, [], Option}
 use Rattle.lt_definitions.specs.Items.{Item}
 use Rattle.lt_definitions.specs.Theory.{Refusal}
 use Rattle.lt_texts.specs.Files.{File}
 use Rattle.lt_io.specs.Files.{Files}
 use Rattle.lt_io.specs.Written.{Grew}
-use Rattle.lt_walks.specs.Walks.{End, accepted}
-use Rattle.lt_walks.specs.Calls.{AreCheckWords, CheckStops}
+use Rattle.lt_walks.specs.Walks.{End}
+use Rattle.lt_walks.specs.Calls.{CheckStops}
 use Rattle.lt_walks.specs.Outputs.{check_line}
 use Rattle.lt_run.specs.declared.files.Joined.{Joined}
 use Rattle.lt_run.specs.Joining.{IsJoinedOf}
 use Rattle.lt_run.specs.Places.{AreNames}
-use Rattle.lt_run.specs.Walked.{IsEnd, IsCut}
+use Rattle.lt_run.specs.Walked.{IsEnd}
 
 -- The walk through the joined text accepts these items and ends so; the sinks got its summary and
 -- its line.

@@ -1,5 +1,5 @@
 //! How many items there are, by kind.
-ghost use Rattle.std.specs.Prelude.{◌≡◌, map, length};
+ghost use Rattle.std.specs.Prelude.{◌≡◌, map};
 ghost use Rattle.lt_hol.specs.Items.{item_of};
 ghost use Rattle.lt_run.specs.Counts.{counts_of};
 
