@@ -1,196 +1,97 @@
 -- Rows over lists and quotients of lists.
 -- Source: this project's own.
-use Rattle.std.specs.Prelude.{List, [], ◌∷◌, Option, codes}
+use Rattle.std.specs.Prelude.{List, [], ◌∷◌, Option, codes, ◌++◌}
 use Rattle.lt_definitions.specs.Types.{bool, fun}
-use Rattle.lt_definitions.specs.Items.{type_item, const_item, axiom_item}
-use Rattle.lt_transport_definitions.specs.Relations.{constructed, no_relations}
-use Rattle.lt_transport_definitions.specs.Correspondence.{chosen_name, chosen_rule, chosen_application, chosen_abstraction}
-use Rattle.lt_texts.specs.Commands.{Command, item_command, relator_command, rule_command, lifting_command, quotient_type_command, lift_command, parametric_command, param_rule_command, equiv_command, carry_command}
-use Rattle.lt_transport_rows.specs.Computing.{Told, candidate, tv, tc, cn, bn, ap, lm, untold, told}
+use Rattle.lt_definitions.specs.Items.{const_item, axiom_item}
+use Rattle.lt_texts.specs.Commands.{Command, item_command, relator_command, rule_command, lift_command, parametric_command, param_rule_command}
+use Rattle.lt_transport_rows.specs.Beginnings.{list, lists_of_integers, finite_sets}
+use Rattle.lt_transport_rows.specs.Computing.{Told, tv, tc, cn, bn, ap, lm, untold}
 
 -- a composed quotient: its transfer lemma is no rule
 abbrev pub composed : List (Command × Option Told)
-composed = untold (item_command (type_item (codes "nat") 0))
-    ∷ untold (item_command (type_item (codes "prod") 2))
-    ∷ untold (item_command (const_item (codes "intrel") (fun (tc "prod" ((tc "nat" ([])) ∷ (tc "nat" ([])) ∷ [])) (fun (tc "prod" ((tc "nat" ([])) ∷ (tc "nat" ([])) ∷ [])) bool))))
-    ∷ untold (item_command (const_item (codes "padd") (fun (tc "prod" ((tc "nat" ([])) ∷ (tc "nat" ([])) ∷ [])) (fun (tc "prod" ((tc "nat" ([])) ∷ (tc "nat" ([])) ∷ [])) (tc "prod" ((tc "nat" ([])) ∷ (tc "nat" ([])) ∷ []))))))
-    ∷ untold (item_command (axiom_item (codes "intrel_per") (ap (cn "part_equivp" ((tc "prod" ((tc "nat" ([])) ∷ (tc "nat" ([])) ∷ [])) ∷ [])) (cn "intrel" ([])))))
-    ∷ untold (item_command (axiom_item (codes "padd_resp") (ap (ap (ap (ap (cn "rel_fun" ((tc "prod" ((tc "nat" ([])) ∷ (tc "nat" ([])) ∷ [])) ∷ (tc "prod" ((tc "nat" ([])) ∷ (tc "nat" ([])) ∷ [])) ∷ (fun (tc "prod" ((tc "nat" ([])) ∷ (tc "nat" ([])) ∷ [])) (tc "prod" ((tc "nat" ([])) ∷ (tc "nat" ([])) ∷ []))) ∷ (fun (tc "prod" ((tc "nat" ([])) ∷ (tc "nat" ([])) ∷ [])) (tc "prod" ((tc "nat" ([])) ∷ (tc "nat" ([])) ∷ []))) ∷ [])) (cn "intrel" ([]))) (ap (ap (cn "rel_fun" ((tc "prod" ((tc "nat" ([])) ∷ (tc "nat" ([])) ∷ [])) ∷ (tc "prod" ((tc "nat" ([])) ∷ (tc "nat" ([])) ∷ [])) ∷ (tc "prod" ((tc "nat" ([])) ∷ (tc "nat" ([])) ∷ [])) ∷ (tc "prod" ((tc "nat" ([])) ∷ (tc "nat" ([])) ∷ [])) ∷ [])) (cn "intrel" ([]))) (cn "intrel" ([])))) (cn "padd" ([]))) (cn "padd" ([])))))
-    ∷ untold (item_command (axiom_item (codes "padd_comm") (ap (cn "all" ((tc "prod" ((tc "nat" ([])) ∷ (tc "nat" ([])) ∷ [])) ∷ [])) (lm "x0" (tc "prod" ((tc "nat" ([])) ∷ (tc "nat" ([])) ∷ [])) (ap (ap (cn "imp" ([])) (ap (ap (cn "intrel" ([])) (bn "x0")) (bn "x0"))) (ap (cn "all" ((tc "prod" ((tc "nat" ([])) ∷ (tc "nat" ([])) ∷ [])) ∷ [])) (lm "x1" (tc "prod" ((tc "nat" ([])) ∷ (tc "nat" ([])) ∷ [])) (ap (ap (cn "imp" ([])) (ap (ap (cn "intrel" ([])) (bn "x1")) (bn "x1"))) (ap (ap (cn "intrel" ([])) (ap (ap (cn "padd" ([])) (bn "x0")) (bn "x1"))) (ap (ap (cn "padd" ([])) (bn "x1")) (bn "x0")))))))))))
-    ∷ untold (rule_command (codes "all_bounded"))
-    ∷ untold (quotient_type_command (codes "int") ([]) (cn "intrel" ([])) (codes "intrel_per"))
-    ∷ untold (lift_command (codes "iadd") (fun (tc "int" ([])) (fun (tc "int" ([])) (tc "int" ([])))) (cn "padd" ([])) (codes "padd_resp"))
-    ∷ told (equiv_command (codes "comm") (ap (cn "all" ((tc "int" ([])) ∷ [])) (lm "x0" (tc "int" ([])) (ap (cn "all" ((tc "int" ([])) ∷ [])) (lm "x1" (tc "int" ([])) (ap (ap (cn "eq" ((tc "int" ([])) ∷ [])) (ap (ap (cn "iadd" ([])) (bn "x0")) (bn "x1"))) (ap (ap (cn "iadd" ([])) (bn "x1")) (bn "x0")))))))) (record { solution = λ s. ((chosen_application (chosen_rule (codes "all") ((tc "int" ([])) ∷ []) 1 (candidate s "all" ((tc "int" ([])) ∷ []) 1)) (chosen_abstraction (codes "x0") (tc "int" ([])) (chosen_application (chosen_rule (codes "all") ((tc "int" ([])) ∷ []) 1 (candidate s "all" ((tc "int" ([])) ∷ []) 1)) (chosen_abstraction (codes "x1") (tc "int" ([])) (chosen_application (chosen_application (chosen_rule (codes "eq") ((tc "int" ([])) ∷ []) 1 (candidate s "eq" ((tc "int" ([])) ∷ []) 1)) (chosen_application (chosen_application (chosen_rule (codes "iadd") ([]) 0 (candidate s "iadd" ([]) 0)) (chosen_name (codes "x0"))) (chosen_name (codes "x1")))) (chosen_application (chosen_application (chosen_rule (codes "iadd") ([]) 0 (candidate s "iadd" ([]) 0)) (chosen_name (codes "x1"))) (chosen_name (codes "x0")))))))), (((constructed (codes "cr_int") ([]) no_relations) ∷ []), ((constructed (codes "cr_int") ([]) no_relations), (((constructed (codes "cr_int") ([]) no_relations) ∷ []), ((constructed (codes "cr_int") ([]) no_relations), ((([]), ((([]), tt), tt)), ((([]), tt), tt))))))); top = 0; image = (ap (lm "x0" (fun (tc "prod" ((tc "nat" ([])) ∷ (tc "nat" ([])) ∷ [])) bool) (ap (cn "all" ((tc "prod" ((tc "nat" ([])) ∷ (tc "nat" ([])) ∷ [])) ∷ [])) (lm "x1" (tc "prod" ((tc "nat" ([])) ∷ (tc "nat" ([])) ∷ [])) (ap (ap (cn "imp" ([])) (ap (lm "x2" (tc "prod" ((tc "nat" ([])) ∷ (tc "nat" ([])) ∷ [])) (ap (ap (cn "intrel" ([])) (bn "x2")) (bn "x2"))) (bn "x1"))) (ap (bn "x0") (bn "x1")))))) (lm "x0" (tc "prod" ((tc "nat" ([])) ∷ (tc "nat" ([])) ∷ [])) (ap (lm "x1" (fun (tc "prod" ((tc "nat" ([])) ∷ (tc "nat" ([])) ∷ [])) bool) (ap (cn "all" ((tc "prod" ((tc "nat" ([])) ∷ (tc "nat" ([])) ∷ [])) ∷ [])) (lm "x2" (tc "prod" ((tc "nat" ([])) ∷ (tc "nat" ([])) ∷ [])) (ap (ap (cn "imp" ([])) (ap (lm "x3" (tc "prod" ((tc "nat" ([])) ∷ (tc "nat" ([])) ∷ [])) (ap (ap (cn "intrel" ([])) (bn "x3")) (bn "x3"))) (bn "x2"))) (ap (bn "x1") (bn "x2")))))) (lm "x1" (tc "prod" ((tc "nat" ([])) ∷ (tc "nat" ([])) ∷ [])) (ap (ap (cn "intrel" ([])) (ap (ap (cn "padd" ([])) (bn "x0")) (bn "x1"))) (ap (ap (cn "padd" ([])) (bn "x1")) (bn "x0"))))))); normal = (ap (cn "all" ((tc "prod" ((tc "nat" ([])) ∷ (tc "nat" ([])) ∷ [])) ∷ [])) (lm "x0" (tc "prod" ((tc "nat" ([])) ∷ (tc "nat" ([])) ∷ [])) (ap (ap (cn "imp" ([])) (ap (ap (cn "intrel" ([])) (bn "x0")) (bn "x0"))) (ap (cn "all" ((tc "prod" ((tc "nat" ([])) ∷ (tc "nat" ([])) ∷ [])) ∷ [])) (lm "x1" (tc "prod" ((tc "nat" ([])) ∷ (tc "nat" ([])) ∷ [])) (ap (ap (cn "imp" ([])) (ap (ap (cn "intrel" ([])) (bn "x1")) (bn "x1"))) (ap (ap (cn "intrel" ([])) (ap (ap (cn "padd" ([])) (bn "x0")) (bn "x1"))) (ap (ap (cn "padd" ([])) (bn "x1")) (bn "x0"))))))))) })
-    ∷ untold (carry_command (codes "icomm") (codes "comm") (codes "padd_comm"))
-    ∷ untold (item_command (type_item (codes "list") 1))
-    ∷ untold (item_command (const_item (codes "list_all2") (fun (fun (tv "a") (fun (tv "b") bool)) (fun (tc "list" ((tv "a") ∷ [])) (fun (tc "list" ((tv "b") ∷ [])) bool)))))
-    ∷ untold (item_command (const_item (codes "map") (fun (fun (tv "a") (tv "b")) (fun (tc "list" ((tv "a") ∷ [])) (tc "list" ((tv "b") ∷ []))))))
-    ∷ untold (item_command (axiom_item (codes "list_eq") (ap (ap (cn "eq" ((fun (tc "list" ((tv "a") ∷ [])) (fun (tc "list" ((tv "a") ∷ [])) bool)) ∷ [])) (ap (cn "list_all2" ((tv "a") ∷ (tv "a") ∷ [])) (cn "eq" ((tv "a") ∷ [])))) (cn "eq" ((tc "list" ((tv "a") ∷ [])) ∷ [])))))
-    ∷ untold (item_command (axiom_item (codes "list_quotient") (ap (cn "all" ((fun (tv "a") (fun (tv "a") bool)) ∷ [])) (lm "x0" (fun (tv "a") (fun (tv "a") bool)) (ap (cn "all" ((fun (tv "a") (tv "b")) ∷ [])) (lm "x1" (fun (tv "a") (tv "b")) (ap (cn "all" ((fun (tv "b") (tv "a")) ∷ [])) (lm "x2" (fun (tv "b") (tv "a")) (ap (cn "all" ((fun (tv "a") (fun (tv "b") bool)) ∷ [])) (lm "x3" (fun (tv "a") (fun (tv "b") bool)) (ap (ap (cn "imp" ([])) (ap (ap (ap (ap (cn "Quotient" ((tv "a") ∷ (tv "b") ∷ [])) (bn "x0")) (bn "x1")) (bn "x2")) (bn "x3"))) (ap (ap (ap (ap (cn "Quotient" ((tc "list" ((tv "a") ∷ [])) ∷ (tc "list" ((tv "b") ∷ [])) ∷ [])) (ap (cn "list_all2" ((tv "a") ∷ (tv "a") ∷ [])) (bn "x0"))) (ap (cn "map" ((tv "a") ∷ (tv "b") ∷ [])) (bn "x1"))) (ap (cn "map" ((tv "b") ∷ (tv "a") ∷ [])) (bn "x2"))) (ap (cn "list_all2" ((tv "a") ∷ (tv "b") ∷ [])) (bn "x3"))))))))))))))
-    ∷ untold (item_command (axiom_item (codes "list_comp") (ap (cn "all" ((fun (tv "a") (fun (tv "b") bool)) ∷ [])) (lm "x0" (fun (tv "a") (fun (tv "b") bool)) (ap (cn "all" ((fun (tv "b") (fun (tv "c") bool)) ∷ [])) (lm "x1" (fun (tv "b") (fun (tv "c") bool)) (ap (ap (cn "eq" ((fun (tc "list" ((tv "a") ∷ [])) (fun (tc "list" ((tv "c") ∷ [])) bool)) ∷ [])) (ap (cn "list_all2" ((tv "a") ∷ (tv "c") ∷ [])) (ap (ap (cn "relcompp" ((tv "a") ∷ (tv "b") ∷ (tv "c") ∷ [])) (bn "x0")) (bn "x1")))) (ap (ap (cn "relcompp" ((tc "list" ((tv "a") ∷ [])) ∷ (tc "list" ((tv "b") ∷ [])) ∷ (tc "list" ((tv "c") ∷ [])) ∷ [])) (ap (cn "list_all2" ((tv "a") ∷ (tv "b") ∷ [])) (bn "x0"))) (ap (cn "list_all2" ((tv "b") ∷ (tv "c") ∷ [])) (bn "x1"))))))))))
-    ∷ untold (relator_command (codes "list") (codes "list_all2") (codes "map") (codes "list_eq") (codes "list_quotient") (codes "list_comp"))
-    ∷ untold (item_command (type_item (codes "q2") 0))
-    ∷ untold (item_command (const_item (codes "R2") (fun (tc "list" ((tc "int" ([])) ∷ [])) (fun (tc "list" ((tc "int" ([])) ∷ [])) bool))))
-    ∷ untold (item_command (const_item (codes "abs2") (fun (tc "list" ((tc "int" ([])) ∷ [])) (tc "q2" ([])))))
-    ∷ untold (item_command (const_item (codes "rep2") (fun (tc "q2" ([])) (tc "list" ((tc "int" ([])) ∷ [])))))
-    ∷ untold (item_command (const_item (codes "cr2") (fun (tc "list" ((tc "int" ([])) ∷ [])) (fun (tc "q2" ([])) bool))))
-    ∷ untold (item_command (axiom_item (codes "Q2") (ap (ap (ap (ap (cn "Quotient" ((tc "list" ((tc "int" ([])) ∷ [])) ∷ (tc "q2" ([])) ∷ [])) (cn "R2" ([]))) (cn "abs2" ([]))) (cn "rep2" ([]))) (cn "cr2" ([])))))
-    ∷ untold (lifting_command (codes "Q2"))
-    ∷ untold (item_command (const_item (codes "t") (tc "list" ((tc "prod" ((tc "nat" ([])) ∷ (tc "nat" ([])) ∷ [])) ∷ []))))
-    ∷ untold (item_command (axiom_item (codes "t_resp") (ap (ap (ap (ap (cn "relcompp" ((tc "list" ((tc "prod" ((tc "nat" ([])) ∷ (tc "nat" ([])) ∷ [])) ∷ [])) ∷ (tc "list" ((tc "int" ([])) ∷ [])) ∷ (tc "list" ((tc "prod" ((tc "nat" ([])) ∷ (tc "nat" ([])) ∷ [])) ∷ [])) ∷ [])) (ap (cn "list_all2" ((tc "prod" ((tc "nat" ([])) ∷ (tc "nat" ([])) ∷ [])) ∷ (tc "int" ([])) ∷ [])) (cn "cr_int" ([])))) (ap (ap (cn "relcompp" ((tc "list" ((tc "int" ([])) ∷ [])) ∷ (tc "list" ((tc "int" ([])) ∷ [])) ∷ (tc "list" ((tc "prod" ((tc "nat" ([])) ∷ (tc "nat" ([])) ∷ [])) ∷ [])) ∷ [])) (cn "R2" ([]))) (ap (cn "conversep" ((tc "list" ((tc "prod" ((tc "nat" ([])) ∷ (tc "nat" ([])) ∷ [])) ∷ [])) ∷ (tc "list" ((tc "int" ([])) ∷ [])) ∷ [])) (ap (cn "list_all2" ((tc "prod" ((tc "nat" ([])) ∷ (tc "nat" ([])) ∷ [])) ∷ (tc "int" ([])) ∷ [])) (cn "cr_int" ([])))))) (cn "t" ([]))) (cn "t" ([])))))
-    ∷ untold (lift_command (codes "c") (tc "q2" ([])) (cn "t" ([])) (codes "t_resp"))
-    ∷ []
+composed = lists_of_integers
+    ++ (untold (lift_command (codes "c") (tc "q2" []) (cn "t" []) (codes "t_resp"))
+    ∷ [])
 
 -- so a statement over it has no transport by it
 abbrev pub composed_no_rule : List (Command × Option Told)
-composed_no_rule = untold (item_command (type_item (codes "nat") 0))
-    ∷ untold (item_command (type_item (codes "prod") 2))
-    ∷ untold (item_command (const_item (codes "intrel") (fun (tc "prod" ((tc "nat" ([])) ∷ (tc "nat" ([])) ∷ [])) (fun (tc "prod" ((tc "nat" ([])) ∷ (tc "nat" ([])) ∷ [])) bool))))
-    ∷ untold (item_command (const_item (codes "padd") (fun (tc "prod" ((tc "nat" ([])) ∷ (tc "nat" ([])) ∷ [])) (fun (tc "prod" ((tc "nat" ([])) ∷ (tc "nat" ([])) ∷ [])) (tc "prod" ((tc "nat" ([])) ∷ (tc "nat" ([])) ∷ []))))))
-    ∷ untold (item_command (axiom_item (codes "intrel_per") (ap (cn "part_equivp" ((tc "prod" ((tc "nat" ([])) ∷ (tc "nat" ([])) ∷ [])) ∷ [])) (cn "intrel" ([])))))
-    ∷ untold (item_command (axiom_item (codes "padd_resp") (ap (ap (ap (ap (cn "rel_fun" ((tc "prod" ((tc "nat" ([])) ∷ (tc "nat" ([])) ∷ [])) ∷ (tc "prod" ((tc "nat" ([])) ∷ (tc "nat" ([])) ∷ [])) ∷ (fun (tc "prod" ((tc "nat" ([])) ∷ (tc "nat" ([])) ∷ [])) (tc "prod" ((tc "nat" ([])) ∷ (tc "nat" ([])) ∷ []))) ∷ (fun (tc "prod" ((tc "nat" ([])) ∷ (tc "nat" ([])) ∷ [])) (tc "prod" ((tc "nat" ([])) ∷ (tc "nat" ([])) ∷ []))) ∷ [])) (cn "intrel" ([]))) (ap (ap (cn "rel_fun" ((tc "prod" ((tc "nat" ([])) ∷ (tc "nat" ([])) ∷ [])) ∷ (tc "prod" ((tc "nat" ([])) ∷ (tc "nat" ([])) ∷ [])) ∷ (tc "prod" ((tc "nat" ([])) ∷ (tc "nat" ([])) ∷ [])) ∷ (tc "prod" ((tc "nat" ([])) ∷ (tc "nat" ([])) ∷ [])) ∷ [])) (cn "intrel" ([]))) (cn "intrel" ([])))) (cn "padd" ([]))) (cn "padd" ([])))))
-    ∷ untold (item_command (axiom_item (codes "padd_comm") (ap (cn "all" ((tc "prod" ((tc "nat" ([])) ∷ (tc "nat" ([])) ∷ [])) ∷ [])) (lm "x0" (tc "prod" ((tc "nat" ([])) ∷ (tc "nat" ([])) ∷ [])) (ap (ap (cn "imp" ([])) (ap (ap (cn "intrel" ([])) (bn "x0")) (bn "x0"))) (ap (cn "all" ((tc "prod" ((tc "nat" ([])) ∷ (tc "nat" ([])) ∷ [])) ∷ [])) (lm "x1" (tc "prod" ((tc "nat" ([])) ∷ (tc "nat" ([])) ∷ [])) (ap (ap (cn "imp" ([])) (ap (ap (cn "intrel" ([])) (bn "x1")) (bn "x1"))) (ap (ap (cn "intrel" ([])) (ap (ap (cn "padd" ([])) (bn "x0")) (bn "x1"))) (ap (ap (cn "padd" ([])) (bn "x1")) (bn "x0")))))))))))
-    ∷ untold (rule_command (codes "all_bounded"))
-    ∷ untold (quotient_type_command (codes "int") ([]) (cn "intrel" ([])) (codes "intrel_per"))
-    ∷ untold (lift_command (codes "iadd") (fun (tc "int" ([])) (fun (tc "int" ([])) (tc "int" ([])))) (cn "padd" ([])) (codes "padd_resp"))
-    ∷ told (equiv_command (codes "comm") (ap (cn "all" ((tc "int" ([])) ∷ [])) (lm "x0" (tc "int" ([])) (ap (cn "all" ((tc "int" ([])) ∷ [])) (lm "x1" (tc "int" ([])) (ap (ap (cn "eq" ((tc "int" ([])) ∷ [])) (ap (ap (cn "iadd" ([])) (bn "x0")) (bn "x1"))) (ap (ap (cn "iadd" ([])) (bn "x1")) (bn "x0")))))))) (record { solution = λ s. ((chosen_application (chosen_rule (codes "all") ((tc "int" ([])) ∷ []) 1 (candidate s "all" ((tc "int" ([])) ∷ []) 1)) (chosen_abstraction (codes "x0") (tc "int" ([])) (chosen_application (chosen_rule (codes "all") ((tc "int" ([])) ∷ []) 1 (candidate s "all" ((tc "int" ([])) ∷ []) 1)) (chosen_abstraction (codes "x1") (tc "int" ([])) (chosen_application (chosen_application (chosen_rule (codes "eq") ((tc "int" ([])) ∷ []) 1 (candidate s "eq" ((tc "int" ([])) ∷ []) 1)) (chosen_application (chosen_application (chosen_rule (codes "iadd") ([]) 0 (candidate s "iadd" ([]) 0)) (chosen_name (codes "x0"))) (chosen_name (codes "x1")))) (chosen_application (chosen_application (chosen_rule (codes "iadd") ([]) 0 (candidate s "iadd" ([]) 0)) (chosen_name (codes "x1"))) (chosen_name (codes "x0")))))))), (((constructed (codes "cr_int") ([]) no_relations) ∷ []), ((constructed (codes "cr_int") ([]) no_relations), (((constructed (codes "cr_int") ([]) no_relations) ∷ []), ((constructed (codes "cr_int") ([]) no_relations), ((([]), ((([]), tt), tt)), ((([]), tt), tt))))))); top = 0; image = (ap (lm "x0" (fun (tc "prod" ((tc "nat" ([])) ∷ (tc "nat" ([])) ∷ [])) bool) (ap (cn "all" ((tc "prod" ((tc "nat" ([])) ∷ (tc "nat" ([])) ∷ [])) ∷ [])) (lm "x1" (tc "prod" ((tc "nat" ([])) ∷ (tc "nat" ([])) ∷ [])) (ap (ap (cn "imp" ([])) (ap (lm "x2" (tc "prod" ((tc "nat" ([])) ∷ (tc "nat" ([])) ∷ [])) (ap (ap (cn "intrel" ([])) (bn "x2")) (bn "x2"))) (bn "x1"))) (ap (bn "x0") (bn "x1")))))) (lm "x0" (tc "prod" ((tc "nat" ([])) ∷ (tc "nat" ([])) ∷ [])) (ap (lm "x1" (fun (tc "prod" ((tc "nat" ([])) ∷ (tc "nat" ([])) ∷ [])) bool) (ap (cn "all" ((tc "prod" ((tc "nat" ([])) ∷ (tc "nat" ([])) ∷ [])) ∷ [])) (lm "x2" (tc "prod" ((tc "nat" ([])) ∷ (tc "nat" ([])) ∷ [])) (ap (ap (cn "imp" ([])) (ap (lm "x3" (tc "prod" ((tc "nat" ([])) ∷ (tc "nat" ([])) ∷ [])) (ap (ap (cn "intrel" ([])) (bn "x3")) (bn "x3"))) (bn "x2"))) (ap (bn "x1") (bn "x2")))))) (lm "x1" (tc "prod" ((tc "nat" ([])) ∷ (tc "nat" ([])) ∷ [])) (ap (ap (cn "intrel" ([])) (ap (ap (cn "padd" ([])) (bn "x0")) (bn "x1"))) (ap (ap (cn "padd" ([])) (bn "x1")) (bn "x0"))))))); normal = (ap (cn "all" ((tc "prod" ((tc "nat" ([])) ∷ (tc "nat" ([])) ∷ [])) ∷ [])) (lm "x0" (tc "prod" ((tc "nat" ([])) ∷ (tc "nat" ([])) ∷ [])) (ap (ap (cn "imp" ([])) (ap (ap (cn "intrel" ([])) (bn "x0")) (bn "x0"))) (ap (cn "all" ((tc "prod" ((tc "nat" ([])) ∷ (tc "nat" ([])) ∷ [])) ∷ [])) (lm "x1" (tc "prod" ((tc "nat" ([])) ∷ (tc "nat" ([])) ∷ [])) (ap (ap (cn "imp" ([])) (ap (ap (cn "intrel" ([])) (bn "x1")) (bn "x1"))) (ap (ap (cn "intrel" ([])) (ap (ap (cn "padd" ([])) (bn "x0")) (bn "x1"))) (ap (ap (cn "padd" ([])) (bn "x1")) (bn "x0"))))))))) })
-    ∷ untold (carry_command (codes "icomm") (codes "comm") (codes "padd_comm"))
-    ∷ untold (item_command (type_item (codes "list") 1))
-    ∷ untold (item_command (const_item (codes "list_all2") (fun (fun (tv "a") (fun (tv "b") bool)) (fun (tc "list" ((tv "a") ∷ [])) (fun (tc "list" ((tv "b") ∷ [])) bool)))))
-    ∷ untold (item_command (const_item (codes "map") (fun (fun (tv "a") (tv "b")) (fun (tc "list" ((tv "a") ∷ [])) (tc "list" ((tv "b") ∷ []))))))
-    ∷ untold (item_command (axiom_item (codes "list_eq") (ap (ap (cn "eq" ((fun (tc "list" ((tv "a") ∷ [])) (fun (tc "list" ((tv "a") ∷ [])) bool)) ∷ [])) (ap (cn "list_all2" ((tv "a") ∷ (tv "a") ∷ [])) (cn "eq" ((tv "a") ∷ [])))) (cn "eq" ((tc "list" ((tv "a") ∷ [])) ∷ [])))))
-    ∷ untold (item_command (axiom_item (codes "list_quotient") (ap (cn "all" ((fun (tv "a") (fun (tv "a") bool)) ∷ [])) (lm "x0" (fun (tv "a") (fun (tv "a") bool)) (ap (cn "all" ((fun (tv "a") (tv "b")) ∷ [])) (lm "x1" (fun (tv "a") (tv "b")) (ap (cn "all" ((fun (tv "b") (tv "a")) ∷ [])) (lm "x2" (fun (tv "b") (tv "a")) (ap (cn "all" ((fun (tv "a") (fun (tv "b") bool)) ∷ [])) (lm "x3" (fun (tv "a") (fun (tv "b") bool)) (ap (ap (cn "imp" ([])) (ap (ap (ap (ap (cn "Quotient" ((tv "a") ∷ (tv "b") ∷ [])) (bn "x0")) (bn "x1")) (bn "x2")) (bn "x3"))) (ap (ap (ap (ap (cn "Quotient" ((tc "list" ((tv "a") ∷ [])) ∷ (tc "list" ((tv "b") ∷ [])) ∷ [])) (ap (cn "list_all2" ((tv "a") ∷ (tv "a") ∷ [])) (bn "x0"))) (ap (cn "map" ((tv "a") ∷ (tv "b") ∷ [])) (bn "x1"))) (ap (cn "map" ((tv "b") ∷ (tv "a") ∷ [])) (bn "x2"))) (ap (cn "list_all2" ((tv "a") ∷ (tv "b") ∷ [])) (bn "x3"))))))))))))))
-    ∷ untold (item_command (axiom_item (codes "list_comp") (ap (cn "all" ((fun (tv "a") (fun (tv "b") bool)) ∷ [])) (lm "x0" (fun (tv "a") (fun (tv "b") bool)) (ap (cn "all" ((fun (tv "b") (fun (tv "c") bool)) ∷ [])) (lm "x1" (fun (tv "b") (fun (tv "c") bool)) (ap (ap (cn "eq" ((fun (tc "list" ((tv "a") ∷ [])) (fun (tc "list" ((tv "c") ∷ [])) bool)) ∷ [])) (ap (cn "list_all2" ((tv "a") ∷ (tv "c") ∷ [])) (ap (ap (cn "relcompp" ((tv "a") ∷ (tv "b") ∷ (tv "c") ∷ [])) (bn "x0")) (bn "x1")))) (ap (ap (cn "relcompp" ((tc "list" ((tv "a") ∷ [])) ∷ (tc "list" ((tv "b") ∷ [])) ∷ (tc "list" ((tv "c") ∷ [])) ∷ [])) (ap (cn "list_all2" ((tv "a") ∷ (tv "b") ∷ [])) (bn "x0"))) (ap (cn "list_all2" ((tv "b") ∷ (tv "c") ∷ [])) (bn "x1"))))))))))
-    ∷ untold (relator_command (codes "list") (codes "list_all2") (codes "map") (codes "list_eq") (codes "list_quotient") (codes "list_comp"))
-    ∷ untold (item_command (type_item (codes "q2") 0))
-    ∷ untold (item_command (const_item (codes "R2") (fun (tc "list" ((tc "int" ([])) ∷ [])) (fun (tc "list" ((tc "int" ([])) ∷ [])) bool))))
-    ∷ untold (item_command (const_item (codes "abs2") (fun (tc "list" ((tc "int" ([])) ∷ [])) (tc "q2" ([])))))
-    ∷ untold (item_command (const_item (codes "rep2") (fun (tc "q2" ([])) (tc "list" ((tc "int" ([])) ∷ [])))))
-    ∷ untold (item_command (const_item (codes "cr2") (fun (tc "list" ((tc "int" ([])) ∷ [])) (fun (tc "q2" ([])) bool))))
-    ∷ untold (item_command (axiom_item (codes "Q2") (ap (ap (ap (ap (cn "Quotient" ((tc "list" ((tc "int" ([])) ∷ [])) ∷ (tc "q2" ([])) ∷ [])) (cn "R2" ([]))) (cn "abs2" ([]))) (cn "rep2" ([]))) (cn "cr2" ([])))))
-    ∷ untold (lifting_command (codes "Q2"))
-    ∷ untold (item_command (const_item (codes "t") (tc "list" ((tc "prod" ((tc "nat" ([])) ∷ (tc "nat" ([])) ∷ [])) ∷ []))))
-    ∷ untold (item_command (axiom_item (codes "t_resp") (ap (ap (ap (ap (cn "relcompp" ((tc "list" ((tc "prod" ((tc "nat" ([])) ∷ (tc "nat" ([])) ∷ [])) ∷ [])) ∷ (tc "list" ((tc "int" ([])) ∷ [])) ∷ (tc "list" ((tc "prod" ((tc "nat" ([])) ∷ (tc "nat" ([])) ∷ [])) ∷ [])) ∷ [])) (ap (cn "list_all2" ((tc "prod" ((tc "nat" ([])) ∷ (tc "nat" ([])) ∷ [])) ∷ (tc "int" ([])) ∷ [])) (cn "cr_int" ([])))) (ap (ap (cn "relcompp" ((tc "list" ((tc "int" ([])) ∷ [])) ∷ (tc "list" ((tc "int" ([])) ∷ [])) ∷ (tc "list" ((tc "prod" ((tc "nat" ([])) ∷ (tc "nat" ([])) ∷ [])) ∷ [])) ∷ [])) (cn "R2" ([]))) (ap (cn "conversep" ((tc "list" ((tc "prod" ((tc "nat" ([])) ∷ (tc "nat" ([])) ∷ [])) ∷ [])) ∷ (tc "list" ((tc "int" ([])) ∷ [])) ∷ [])) (ap (cn "list_all2" ((tc "prod" ((tc "nat" ([])) ∷ (tc "nat" ([])) ∷ [])) ∷ (tc "int" ([])) ∷ [])) (cn "cr_int" ([])))))) (cn "t" ([]))) (cn "t" ([])))))
-    ∷ untold (lift_command (codes "c") (tc "q2" ([])) (cn "t" ([])) (codes "t_resp"))
-    ∷ untold (rule_command (codes "c_transfer"))
-    ∷ []
+composed_no_rule = composed
+    ++ (untold (rule_command (codes "c_transfer"))
+    ∷ [])
 
 -- a respectfulness statement that differs
 abbrev pub other_respectfulness : List (Command × Option Told)
-other_respectfulness = untold (item_command (type_item (codes "nat") 0))
-    ∷ untold (item_command (type_item (codes "prod") 2))
-    ∷ untold (item_command (const_item (codes "intrel") (fun (tc "prod" ((tc "nat" ([])) ∷ (tc "nat" ([])) ∷ [])) (fun (tc "prod" ((tc "nat" ([])) ∷ (tc "nat" ([])) ∷ [])) bool))))
-    ∷ untold (item_command (const_item (codes "padd") (fun (tc "prod" ((tc "nat" ([])) ∷ (tc "nat" ([])) ∷ [])) (fun (tc "prod" ((tc "nat" ([])) ∷ (tc "nat" ([])) ∷ [])) (tc "prod" ((tc "nat" ([])) ∷ (tc "nat" ([])) ∷ []))))))
-    ∷ untold (item_command (axiom_item (codes "intrel_per") (ap (cn "part_equivp" ((tc "prod" ((tc "nat" ([])) ∷ (tc "nat" ([])) ∷ [])) ∷ [])) (cn "intrel" ([])))))
-    ∷ untold (item_command (axiom_item (codes "padd_resp") (ap (ap (ap (ap (cn "rel_fun" ((tc "prod" ((tc "nat" ([])) ∷ (tc "nat" ([])) ∷ [])) ∷ (tc "prod" ((tc "nat" ([])) ∷ (tc "nat" ([])) ∷ [])) ∷ (fun (tc "prod" ((tc "nat" ([])) ∷ (tc "nat" ([])) ∷ [])) (tc "prod" ((tc "nat" ([])) ∷ (tc "nat" ([])) ∷ []))) ∷ (fun (tc "prod" ((tc "nat" ([])) ∷ (tc "nat" ([])) ∷ [])) (tc "prod" ((tc "nat" ([])) ∷ (tc "nat" ([])) ∷ []))) ∷ [])) (cn "intrel" ([]))) (ap (ap (cn "rel_fun" ((tc "prod" ((tc "nat" ([])) ∷ (tc "nat" ([])) ∷ [])) ∷ (tc "prod" ((tc "nat" ([])) ∷ (tc "nat" ([])) ∷ [])) ∷ (tc "prod" ((tc "nat" ([])) ∷ (tc "nat" ([])) ∷ [])) ∷ (tc "prod" ((tc "nat" ([])) ∷ (tc "nat" ([])) ∷ [])) ∷ [])) (cn "intrel" ([]))) (cn "intrel" ([])))) (cn "padd" ([]))) (cn "padd" ([])))))
-    ∷ untold (item_command (axiom_item (codes "padd_comm") (ap (cn "all" ((tc "prod" ((tc "nat" ([])) ∷ (tc "nat" ([])) ∷ [])) ∷ [])) (lm "x0" (tc "prod" ((tc "nat" ([])) ∷ (tc "nat" ([])) ∷ [])) (ap (ap (cn "imp" ([])) (ap (ap (cn "intrel" ([])) (bn "x0")) (bn "x0"))) (ap (cn "all" ((tc "prod" ((tc "nat" ([])) ∷ (tc "nat" ([])) ∷ [])) ∷ [])) (lm "x1" (tc "prod" ((tc "nat" ([])) ∷ (tc "nat" ([])) ∷ [])) (ap (ap (cn "imp" ([])) (ap (ap (cn "intrel" ([])) (bn "x1")) (bn "x1"))) (ap (ap (cn "intrel" ([])) (ap (ap (cn "padd" ([])) (bn "x0")) (bn "x1"))) (ap (ap (cn "padd" ([])) (bn "x1")) (bn "x0")))))))))))
-    ∷ untold (rule_command (codes "all_bounded"))
-    ∷ untold (quotient_type_command (codes "int") ([]) (cn "intrel" ([])) (codes "intrel_per"))
-    ∷ untold (lift_command (codes "iadd") (fun (tc "int" ([])) (fun (tc "int" ([])) (tc "int" ([])))) (cn "padd" ([])) (codes "padd_resp"))
-    ∷ told (equiv_command (codes "comm") (ap (cn "all" ((tc "int" ([])) ∷ [])) (lm "x0" (tc "int" ([])) (ap (cn "all" ((tc "int" ([])) ∷ [])) (lm "x1" (tc "int" ([])) (ap (ap (cn "eq" ((tc "int" ([])) ∷ [])) (ap (ap (cn "iadd" ([])) (bn "x0")) (bn "x1"))) (ap (ap (cn "iadd" ([])) (bn "x1")) (bn "x0")))))))) (record { solution = λ s. ((chosen_application (chosen_rule (codes "all") ((tc "int" ([])) ∷ []) 1 (candidate s "all" ((tc "int" ([])) ∷ []) 1)) (chosen_abstraction (codes "x0") (tc "int" ([])) (chosen_application (chosen_rule (codes "all") ((tc "int" ([])) ∷ []) 1 (candidate s "all" ((tc "int" ([])) ∷ []) 1)) (chosen_abstraction (codes "x1") (tc "int" ([])) (chosen_application (chosen_application (chosen_rule (codes "eq") ((tc "int" ([])) ∷ []) 1 (candidate s "eq" ((tc "int" ([])) ∷ []) 1)) (chosen_application (chosen_application (chosen_rule (codes "iadd") ([]) 0 (candidate s "iadd" ([]) 0)) (chosen_name (codes "x0"))) (chosen_name (codes "x1")))) (chosen_application (chosen_application (chosen_rule (codes "iadd") ([]) 0 (candidate s "iadd" ([]) 0)) (chosen_name (codes "x1"))) (chosen_name (codes "x0")))))))), (((constructed (codes "cr_int") ([]) no_relations) ∷ []), ((constructed (codes "cr_int") ([]) no_relations), (((constructed (codes "cr_int") ([]) no_relations) ∷ []), ((constructed (codes "cr_int") ([]) no_relations), ((([]), ((([]), tt), tt)), ((([]), tt), tt))))))); top = 0; image = (ap (lm "x0" (fun (tc "prod" ((tc "nat" ([])) ∷ (tc "nat" ([])) ∷ [])) bool) (ap (cn "all" ((tc "prod" ((tc "nat" ([])) ∷ (tc "nat" ([])) ∷ [])) ∷ [])) (lm "x1" (tc "prod" ((tc "nat" ([])) ∷ (tc "nat" ([])) ∷ [])) (ap (ap (cn "imp" ([])) (ap (lm "x2" (tc "prod" ((tc "nat" ([])) ∷ (tc "nat" ([])) ∷ [])) (ap (ap (cn "intrel" ([])) (bn "x2")) (bn "x2"))) (bn "x1"))) (ap (bn "x0") (bn "x1")))))) (lm "x0" (tc "prod" ((tc "nat" ([])) ∷ (tc "nat" ([])) ∷ [])) (ap (lm "x1" (fun (tc "prod" ((tc "nat" ([])) ∷ (tc "nat" ([])) ∷ [])) bool) (ap (cn "all" ((tc "prod" ((tc "nat" ([])) ∷ (tc "nat" ([])) ∷ [])) ∷ [])) (lm "x2" (tc "prod" ((tc "nat" ([])) ∷ (tc "nat" ([])) ∷ [])) (ap (ap (cn "imp" ([])) (ap (lm "x3" (tc "prod" ((tc "nat" ([])) ∷ (tc "nat" ([])) ∷ [])) (ap (ap (cn "intrel" ([])) (bn "x3")) (bn "x3"))) (bn "x2"))) (ap (bn "x1") (bn "x2")))))) (lm "x1" (tc "prod" ((tc "nat" ([])) ∷ (tc "nat" ([])) ∷ [])) (ap (ap (cn "intrel" ([])) (ap (ap (cn "padd" ([])) (bn "x0")) (bn "x1"))) (ap (ap (cn "padd" ([])) (bn "x1")) (bn "x0"))))))); normal = (ap (cn "all" ((tc "prod" ((tc "nat" ([])) ∷ (tc "nat" ([])) ∷ [])) ∷ [])) (lm "x0" (tc "prod" ((tc "nat" ([])) ∷ (tc "nat" ([])) ∷ [])) (ap (ap (cn "imp" ([])) (ap (ap (cn "intrel" ([])) (bn "x0")) (bn "x0"))) (ap (cn "all" ((tc "prod" ((tc "nat" ([])) ∷ (tc "nat" ([])) ∷ [])) ∷ [])) (lm "x1" (tc "prod" ((tc "nat" ([])) ∷ (tc "nat" ([])) ∷ [])) (ap (ap (cn "imp" ([])) (ap (ap (cn "intrel" ([])) (bn "x1")) (bn "x1"))) (ap (ap (cn "intrel" ([])) (ap (ap (cn "padd" ([])) (bn "x0")) (bn "x1"))) (ap (ap (cn "padd" ([])) (bn "x1")) (bn "x0"))))))))) })
-    ∷ untold (carry_command (codes "icomm") (codes "comm") (codes "padd_comm"))
-    ∷ untold (item_command (type_item (codes "list") 1))
-    ∷ untold (item_command (const_item (codes "list_all2") (fun (fun (tv "a") (fun (tv "b") bool)) (fun (tc "list" ((tv "a") ∷ [])) (fun (tc "list" ((tv "b") ∷ [])) bool)))))
-    ∷ untold (item_command (const_item (codes "map") (fun (fun (tv "a") (tv "b")) (fun (tc "list" ((tv "a") ∷ [])) (tc "list" ((tv "b") ∷ []))))))
-    ∷ untold (item_command (axiom_item (codes "list_eq") (ap (ap (cn "eq" ((fun (tc "list" ((tv "a") ∷ [])) (fun (tc "list" ((tv "a") ∷ [])) bool)) ∷ [])) (ap (cn "list_all2" ((tv "a") ∷ (tv "a") ∷ [])) (cn "eq" ((tv "a") ∷ [])))) (cn "eq" ((tc "list" ((tv "a") ∷ [])) ∷ [])))))
-    ∷ untold (item_command (axiom_item (codes "list_quotient") (ap (cn "all" ((fun (tv "a") (fun (tv "a") bool)) ∷ [])) (lm "x0" (fun (tv "a") (fun (tv "a") bool)) (ap (cn "all" ((fun (tv "a") (tv "b")) ∷ [])) (lm "x1" (fun (tv "a") (tv "b")) (ap (cn "all" ((fun (tv "b") (tv "a")) ∷ [])) (lm "x2" (fun (tv "b") (tv "a")) (ap (cn "all" ((fun (tv "a") (fun (tv "b") bool)) ∷ [])) (lm "x3" (fun (tv "a") (fun (tv "b") bool)) (ap (ap (cn "imp" ([])) (ap (ap (ap (ap (cn "Quotient" ((tv "a") ∷ (tv "b") ∷ [])) (bn "x0")) (bn "x1")) (bn "x2")) (bn "x3"))) (ap (ap (ap (ap (cn "Quotient" ((tc "list" ((tv "a") ∷ [])) ∷ (tc "list" ((tv "b") ∷ [])) ∷ [])) (ap (cn "list_all2" ((tv "a") ∷ (tv "a") ∷ [])) (bn "x0"))) (ap (cn "map" ((tv "a") ∷ (tv "b") ∷ [])) (bn "x1"))) (ap (cn "map" ((tv "b") ∷ (tv "a") ∷ [])) (bn "x2"))) (ap (cn "list_all2" ((tv "a") ∷ (tv "b") ∷ [])) (bn "x3"))))))))))))))
-    ∷ untold (item_command (axiom_item (codes "list_comp") (ap (cn "all" ((fun (tv "a") (fun (tv "b") bool)) ∷ [])) (lm "x0" (fun (tv "a") (fun (tv "b") bool)) (ap (cn "all" ((fun (tv "b") (fun (tv "c") bool)) ∷ [])) (lm "x1" (fun (tv "b") (fun (tv "c") bool)) (ap (ap (cn "eq" ((fun (tc "list" ((tv "a") ∷ [])) (fun (tc "list" ((tv "c") ∷ [])) bool)) ∷ [])) (ap (cn "list_all2" ((tv "a") ∷ (tv "c") ∷ [])) (ap (ap (cn "relcompp" ((tv "a") ∷ (tv "b") ∷ (tv "c") ∷ [])) (bn "x0")) (bn "x1")))) (ap (ap (cn "relcompp" ((tc "list" ((tv "a") ∷ [])) ∷ (tc "list" ((tv "b") ∷ [])) ∷ (tc "list" ((tv "c") ∷ [])) ∷ [])) (ap (cn "list_all2" ((tv "a") ∷ (tv "b") ∷ [])) (bn "x0"))) (ap (cn "list_all2" ((tv "b") ∷ (tv "c") ∷ [])) (bn "x1"))))))))))
-    ∷ untold (relator_command (codes "list") (codes "list_all2") (codes "map") (codes "list_eq") (codes "list_quotient") (codes "list_comp"))
-    ∷ untold (item_command (type_item (codes "q2") 0))
-    ∷ untold (item_command (const_item (codes "R2") (fun (tc "list" ((tc "int" ([])) ∷ [])) (fun (tc "list" ((tc "int" ([])) ∷ [])) bool))))
-    ∷ untold (item_command (const_item (codes "abs2") (fun (tc "list" ((tc "int" ([])) ∷ [])) (tc "q2" ([])))))
-    ∷ untold (item_command (const_item (codes "rep2") (fun (tc "q2" ([])) (tc "list" ((tc "int" ([])) ∷ [])))))
-    ∷ untold (item_command (const_item (codes "cr2") (fun (tc "list" ((tc "int" ([])) ∷ [])) (fun (tc "q2" ([])) bool))))
-    ∷ untold (item_command (axiom_item (codes "Q2") (ap (ap (ap (ap (cn "Quotient" ((tc "list" ((tc "int" ([])) ∷ [])) ∷ (tc "q2" ([])) ∷ [])) (cn "R2" ([]))) (cn "abs2" ([]))) (cn "rep2" ([]))) (cn "cr2" ([])))))
-    ∷ untold (lifting_command (codes "Q2"))
-    ∷ untold (item_command (const_item (codes "t") (tc "list" ((tc "prod" ((tc "nat" ([])) ∷ (tc "nat" ([])) ∷ [])) ∷ []))))
-    ∷ untold (item_command (axiom_item (codes "t_resp") (ap (ap (ap (ap (cn "relcompp" ((tc "list" ((tc "prod" ((tc "nat" ([])) ∷ (tc "nat" ([])) ∷ [])) ∷ [])) ∷ (tc "list" ((tc "int" ([])) ∷ [])) ∷ (tc "list" ((tc "prod" ((tc "nat" ([])) ∷ (tc "nat" ([])) ∷ [])) ∷ [])) ∷ [])) (ap (cn "list_all2" ((tc "prod" ((tc "nat" ([])) ∷ (tc "nat" ([])) ∷ [])) ∷ (tc "int" ([])) ∷ [])) (cn "cr_int" ([])))) (ap (ap (cn "relcompp" ((tc "list" ((tc "int" ([])) ∷ [])) ∷ (tc "list" ((tc "int" ([])) ∷ [])) ∷ (tc "list" ((tc "prod" ((tc "nat" ([])) ∷ (tc "nat" ([])) ∷ [])) ∷ [])) ∷ [])) (cn "R2" ([]))) (ap (cn "conversep" ((tc "list" ((tc "prod" ((tc "nat" ([])) ∷ (tc "nat" ([])) ∷ [])) ∷ [])) ∷ (tc "list" ((tc "int" ([])) ∷ [])) ∷ [])) (ap (cn "list_all2" ((tc "prod" ((tc "nat" ([])) ∷ (tc "nat" ([])) ∷ [])) ∷ (tc "int" ([])) ∷ [])) (cn "cr_int" ([])))))) (cn "t" ([]))) (cn "t" ([])))))
-    ∷ untold (lift_command (codes "c") (tc "q2" ([])) (cn "t" ([])) (codes "Q2"))
-    ∷ []
+other_respectfulness = lists_of_integers
+    ++ (untold (lift_command (codes "c") (tc "q2" []) (cn "t" []) (codes "Q2"))
+    ∷ [])
 
--- a parametrised rule with a function over an abstract type in an argument
-abbrev pub function_argument : List (Command × Option Told)
-function_argument = untold (item_command (type_item (codes "list") 1))
-    ∷ untold (item_command (type_item (codes "fs") 1))
-    ∷ untold (item_command (const_item (codes "Rf") (fun (tc "list" ((tv "a") ∷ [])) (fun (tc "list" ((tv "a") ∷ [])) bool))))
-    ∷ untold (item_command (const_item (codes "abs_fs") (fun (tc "list" ((tv "a") ∷ [])) (tc "fs" ((tv "a") ∷ [])))))
-    ∷ untold (item_command (const_item (codes "rep_fs") (fun (tc "fs" ((tv "a") ∷ [])) (tc "list" ((tv "a") ∷ [])))))
-    ∷ untold (item_command (const_item (codes "cr_fs") (fun (tc "list" ((tv "a") ∷ [])) (fun (tc "fs" ((tv "a") ∷ [])) bool))))
-    ∷ untold (item_command (axiom_item (codes "Q_fs") (ap (ap (ap (ap (cn "Quotient" ((tc "list" ((tv "a") ∷ [])) ∷ (tc "fs" ((tv "a") ∷ [])) ∷ [])) (cn "Rf" ((tv "a") ∷ []))) (cn "abs_fs" ((tv "a") ∷ []))) (cn "rep_fs" ((tv "a") ∷ []))) (cn "cr_fs" ((tv "a") ∷ [])))))
-    ∷ untold (lifting_command (codes "Q_fs"))
-    ∷ untold (item_command (const_item (codes "w") (fun (fun (tc "list" ((tv "a") ∷ [])) bool) bool)))
-    ∷ untold (item_command (axiom_item (codes "w_resp") (ap (ap (ap (ap (cn "rel_fun" ((fun (tc "list" ((tv "a") ∷ [])) bool) ∷ (fun (tc "list" ((tv "a") ∷ [])) bool) ∷ bool ∷ bool ∷ [])) (ap (ap (cn "rel_fun" ((tc "list" ((tv "a") ∷ [])) ∷ (tc "list" ((tv "a") ∷ [])) ∷ bool ∷ bool ∷ [])) (cn "Rf" ((tv "a") ∷ []))) (cn "eq" (bool ∷ [])))) (cn "eq" (bool ∷ []))) (cn "w" ((tv "a") ∷ []))) (cn "w" ((tv "a") ∷ [])))))
-    ∷ untold (lift_command (codes "v") (fun (fun (tc "fs" ((tv "a") ∷ [])) bool) bool) (cn "w" ((tv "a") ∷ [])) (codes "w_resp"))
-    ∷ untold (param_rule_command (codes "vp") (codes "v_transfer") (codes "w_resp"))
-    ∷ []
-
--- the lifted constant before it
+-- a constant whose argument is a function over an abstract type, lifted
 abbrev pub functional : List (Command × Option Told)
-functional = untold (item_command (type_item (codes "list") 1))
-    ∷ untold (item_command (type_item (codes "fs") 1))
-    ∷ untold (item_command (const_item (codes "Rf") (fun (tc "list" ((tv "a") ∷ [])) (fun (tc "list" ((tv "a") ∷ [])) bool))))
-    ∷ untold (item_command (const_item (codes "abs_fs") (fun (tc "list" ((tv "a") ∷ [])) (tc "fs" ((tv "a") ∷ [])))))
-    ∷ untold (item_command (const_item (codes "rep_fs") (fun (tc "fs" ((tv "a") ∷ [])) (tc "list" ((tv "a") ∷ [])))))
-    ∷ untold (item_command (const_item (codes "cr_fs") (fun (tc "list" ((tv "a") ∷ [])) (fun (tc "fs" ((tv "a") ∷ [])) bool))))
-    ∷ untold (item_command (axiom_item (codes "Q_fs") (ap (ap (ap (ap (cn "Quotient" ((tc "list" ((tv "a") ∷ [])) ∷ (tc "fs" ((tv "a") ∷ [])) ∷ [])) (cn "Rf" ((tv "a") ∷ []))) (cn "abs_fs" ((tv "a") ∷ []))) (cn "rep_fs" ((tv "a") ∷ []))) (cn "cr_fs" ((tv "a") ∷ [])))))
-    ∷ untold (lifting_command (codes "Q_fs"))
-    ∷ untold (item_command (const_item (codes "w") (fun (fun (tc "list" ((tv "a") ∷ [])) bool) bool)))
-    ∷ untold (item_command (axiom_item (codes "w_resp") (ap (ap (ap (ap (cn "rel_fun" ((fun (tc "list" ((tv "a") ∷ [])) bool) ∷ (fun (tc "list" ((tv "a") ∷ [])) bool) ∷ bool ∷ bool ∷ [])) (ap (ap (cn "rel_fun" ((tc "list" ((tv "a") ∷ [])) ∷ (tc "list" ((tv "a") ∷ [])) ∷ bool ∷ bool ∷ [])) (cn "Rf" ((tv "a") ∷ []))) (cn "eq" (bool ∷ [])))) (cn "eq" (bool ∷ []))) (cn "w" ((tv "a") ∷ []))) (cn "w" ((tv "a") ∷ [])))))
-    ∷ untold (lift_command (codes "v") (fun (fun (tc "fs" ((tv "a") ∷ [])) bool) bool) (cn "w" ((tv "a") ∷ [])) (codes "w_resp"))
-    ∷ []
+functional = finite_sets
+    ++ (untold (item_command (const_item (codes "w") (fun (fun (list (tv "a")) bool) bool)))
+    ∷ untold (item_command (axiom_item (codes "w_resp") (ap (ap (ap (ap (cn "rel_fun" ((fun (list
+    (tv "a")) bool) ∷ (fun (list (tv "a")) bool) ∷ bool ∷ bool ∷ [])) (ap (ap (cn "rel_fun" ((list
+    (tv "a")) ∷ (list (tv "a")) ∷ bool ∷ bool ∷ [])) (cn "Rf" ((tv "a") ∷ []))) (cn "eq" (bool ∷
+    [])))) (cn "eq" (bool ∷ []))) (cn "w" ((tv "a") ∷ []))) (cn "w" ((tv "a") ∷ [])))))
+    ∷ untold (lift_command (codes "v") (fun (fun (tc "fs" ((tv "a") ∷ [])) bool) bool) (cn "w" ((tv
+    "a") ∷ [])) (codes "w_resp"))
+    ∷ [])
+
+-- its transfer rule has no parametrised form
+abbrev pub function_argument : List (Command × Option Told)
+function_argument = functional
+    ++ (untold (param_rule_command (codes "vp") (codes "v_transfer") (codes "w_resp"))
+    ∷ [])
 
 -- a parametrised correspondence
 abbrev pub parametrised : List (Command × Option Told)
-parametrised = untold (item_command (type_item (codes "list") 1))
-    ∷ untold (item_command (type_item (codes "fs") 1))
-    ∷ untold (item_command (const_item (codes "Rf") (fun (tc "list" ((tv "a") ∷ [])) (fun (tc "list" ((tv "a") ∷ [])) bool))))
-    ∷ untold (item_command (const_item (codes "abs_fs") (fun (tc "list" ((tv "a") ∷ [])) (tc "fs" ((tv "a") ∷ [])))))
-    ∷ untold (item_command (const_item (codes "rep_fs") (fun (tc "fs" ((tv "a") ∷ [])) (tc "list" ((tv "a") ∷ [])))))
-    ∷ untold (item_command (const_item (codes "cr_fs") (fun (tc "list" ((tv "a") ∷ [])) (fun (tc "fs" ((tv "a") ∷ [])) bool))))
-    ∷ untold (item_command (axiom_item (codes "Q_fs") (ap (ap (ap (ap (cn "Quotient" ((tc "list" ((tv "a") ∷ [])) ∷ (tc "fs" ((tv "a") ∷ [])) ∷ [])) (cn "Rf" ((tv "a") ∷ []))) (cn "abs_fs" ((tv "a") ∷ []))) (cn "rep_fs" ((tv "a") ∷ []))) (cn "cr_fs" ((tv "a") ∷ [])))))
-    ∷ untold (lifting_command (codes "Q_fs"))
-    ∷ untold (item_command (const_item (codes "list_all2") (fun (fun (tv "a") (fun (tv "b") bool)) (fun (tc "list" ((tv "a") ∷ [])) (fun (tc "list" ((tv "b") ∷ [])) bool)))))
-    ∷ untold (item_command (const_item (codes "map") (fun (fun (tv "a") (tv "b")) (fun (tc "list" ((tv "a") ∷ [])) (tc "list" ((tv "b") ∷ []))))))
-    ∷ untold (item_command (axiom_item (codes "list_eq") (ap (ap (cn "eq" ((fun (tc "list" ((tv "a") ∷ [])) (fun (tc "list" ((tv "a") ∷ [])) bool)) ∷ [])) (ap (cn "list_all2" ((tv "a") ∷ (tv "a") ∷ [])) (cn "eq" ((tv "a") ∷ [])))) (cn "eq" ((tc "list" ((tv "a") ∷ [])) ∷ [])))))
-    ∷ untold (item_command (axiom_item (codes "list_quotient") (ap (cn "all" ((fun (tv "a") (fun (tv "a") bool)) ∷ [])) (lm "x0" (fun (tv "a") (fun (tv "a") bool)) (ap (cn "all" ((fun (tv "a") (tv "b")) ∷ [])) (lm "x1" (fun (tv "a") (tv "b")) (ap (cn "all" ((fun (tv "b") (tv "a")) ∷ [])) (lm "x2" (fun (tv "b") (tv "a")) (ap (cn "all" ((fun (tv "a") (fun (tv "b") bool)) ∷ [])) (lm "x3" (fun (tv "a") (fun (tv "b") bool)) (ap (ap (cn "imp" ([])) (ap (ap (ap (ap (cn "Quotient" ((tv "a") ∷ (tv "b") ∷ [])) (bn "x0")) (bn "x1")) (bn "x2")) (bn "x3"))) (ap (ap (ap (ap (cn "Quotient" ((tc "list" ((tv "a") ∷ [])) ∷ (tc "list" ((tv "b") ∷ [])) ∷ [])) (ap (cn "list_all2" ((tv "a") ∷ (tv "a") ∷ [])) (bn "x0"))) (ap (cn "map" ((tv "a") ∷ (tv "b") ∷ [])) (bn "x1"))) (ap (cn "map" ((tv "b") ∷ (tv "a") ∷ [])) (bn "x2"))) (ap (cn "list_all2" ((tv "a") ∷ (tv "b") ∷ [])) (bn "x3"))))))))))))))
-    ∷ untold (item_command (axiom_item (codes "list_comp") (ap (cn "all" ((fun (tv "a") (fun (tv "b") bool)) ∷ [])) (lm "x0" (fun (tv "a") (fun (tv "b") bool)) (ap (cn "all" ((fun (tv "b") (fun (tv "c") bool)) ∷ [])) (lm "x1" (fun (tv "b") (fun (tv "c") bool)) (ap (ap (cn "eq" ((fun (tc "list" ((tv "a") ∷ [])) (fun (tc "list" ((tv "c") ∷ [])) bool)) ∷ [])) (ap (cn "list_all2" ((tv "a") ∷ (tv "c") ∷ [])) (ap (ap (cn "relcompp" ((tv "a") ∷ (tv "b") ∷ (tv "c") ∷ [])) (bn "x0")) (bn "x1")))) (ap (ap (cn "relcompp" ((tc "list" ((tv "a") ∷ [])) ∷ (tc "list" ((tv "b") ∷ [])) ∷ (tc "list" ((tv "c") ∷ [])) ∷ [])) (ap (cn "list_all2" ((tv "a") ∷ (tv "b") ∷ [])) (bn "x0"))) (ap (cn "list_all2" ((tv "b") ∷ (tv "c") ∷ [])) (bn "x1"))))))))))
-    ∷ untold (relator_command (codes "list") (codes "list_all2") (codes "map") (codes "list_eq") (codes "list_quotient") (codes "list_comp"))
+parametrised = finite_sets
+    ++ (untold (item_command (const_item (codes "list_all2") (fun (fun (tv "a") (fun (tv "b") bool))
+    (fun (list (tv "a")) (fun (list (tv "b")) bool)))))
+    ∷ untold (item_command (const_item (codes "map") (fun (fun (tv "a") (tv "b")) (fun (list (tv
+    "a")) (list (tv "b"))))))
+    ∷ untold (item_command (axiom_item (codes "list_eq") (ap (ap (cn "eq" ((fun (list (tv "a")) (fun
+    (list (tv "a")) bool)) ∷ [])) (ap (cn "list_all2" ((tv "a") ∷ (tv "a") ∷ [])) (cn "eq" ((tv
+    "a") ∷ [])))) (cn "eq" ((list (tv "a")) ∷ [])))))
+    ∷ untold (item_command (axiom_item (codes "list_quotient") (ap (cn "all" ((fun (tv "a") (fun (tv
+    "a") bool)) ∷ [])) (lm "x0" (fun (tv "a") (fun (tv "a") bool)) (ap (cn "all" ((fun (tv "a")
+    (tv "b")) ∷ [])) (lm "x1" (fun (tv "a") (tv "b")) (ap (cn "all" ((fun (tv "b") (tv "a")) ∷
+    [])) (lm "x2" (fun (tv "b") (tv "a")) (ap (cn "all" ((fun (tv "a") (fun (tv "b") bool)) ∷ []))
+    (lm "x3" (fun (tv "a") (fun (tv "b") bool)) (ap (ap (cn "imp" []) (ap (ap (ap (ap (cn
+    "Quotient" ((tv "a") ∷ (tv "b") ∷ [])) (bn "x0")) (bn "x1")) (bn "x2")) (bn "x3"))) (ap (ap
+    (ap (ap (cn "Quotient" ((list (tv "a")) ∷ (list (tv "b")) ∷ [])) (ap (cn "list_all2" ((tv "a")
+    ∷ (tv "a") ∷ [])) (bn "x0"))) (ap (cn "map" ((tv "a") ∷ (tv "b") ∷ [])) (bn "x1"))) (ap (cn
+    "map" ((tv "b") ∷ (tv "a") ∷ [])) (bn "x2"))) (ap (cn "list_all2" ((tv "a") ∷ (tv "b") ∷ []))
+    (bn "x3"))))))))))))))
+    ∷ untold (item_command (axiom_item (codes "list_comp") (ap (cn "all" ((fun (tv "a") (fun (tv
+    "b") bool)) ∷ [])) (lm "x0" (fun (tv "a") (fun (tv "b") bool)) (ap (cn "all" ((fun (tv "b")
+    (fun (tv "c") bool)) ∷ [])) (lm "x1" (fun (tv "b") (fun (tv "c") bool)) (ap (ap (cn "eq" ((fun
+    (list (tv "a")) (fun (list (tv "c")) bool)) ∷ [])) (ap (cn "list_all2" ((tv "a") ∷ (tv "c") ∷
+    [])) (ap (ap (cn "relcompp" ((tv "a") ∷ (tv "b") ∷ (tv "c") ∷ [])) (bn "x0")) (bn "x1")))) (ap
+    (ap (cn "relcompp" ((list (tv "a")) ∷ (list (tv "b")) ∷ (list (tv "c")) ∷ [])) (ap (cn
+    "list_all2" ((tv "a") ∷ (tv "b") ∷ [])) (bn "x0"))) (ap (cn "list_all2" ((tv "b") ∷ (tv "c") ∷
+    [])) (bn "x1"))))))))))
+    ∷ untold (relator_command (codes "list") (codes "list_all2") (codes "map") (codes "list_eq")
+    (codes "list_quotient") (codes "list_comp"))
     ∷ untold (parametric_command (codes "fs"))
-    ∷ []
+    ∷ [])
 
 -- the same without the relator
 abbrev pub no_relator : List (Command × Option Told)
-no_relator = untold (item_command (type_item (codes "list") 1))
-    ∷ untold (item_command (type_item (codes "fs") 1))
-    ∷ untold (item_command (const_item (codes "Rf") (fun (tc "list" ((tv "a") ∷ [])) (fun (tc "list" ((tv "a") ∷ [])) bool))))
-    ∷ untold (item_command (const_item (codes "abs_fs") (fun (tc "list" ((tv "a") ∷ [])) (tc "fs" ((tv "a") ∷ [])))))
-    ∷ untold (item_command (const_item (codes "rep_fs") (fun (tc "fs" ((tv "a") ∷ [])) (tc "list" ((tv "a") ∷ [])))))
-    ∷ untold (item_command (const_item (codes "cr_fs") (fun (tc "list" ((tv "a") ∷ [])) (fun (tc "fs" ((tv "a") ∷ [])) bool))))
-    ∷ untold (item_command (axiom_item (codes "Q_fs") (ap (ap (ap (ap (cn "Quotient" ((tc "list" ((tv "a") ∷ [])) ∷ (tc "fs" ((tv "a") ∷ [])) ∷ [])) (cn "Rf" ((tv "a") ∷ []))) (cn "abs_fs" ((tv "a") ∷ []))) (cn "rep_fs" ((tv "a") ∷ []))) (cn "cr_fs" ((tv "a") ∷ [])))))
-    ∷ untold (lifting_command (codes "Q_fs"))
-    ∷ untold (parametric_command (codes "fs"))
-    ∷ []
+no_relator = finite_sets
+    ++ (untold (parametric_command (codes "fs"))
+    ∷ [])
 
 -- a parametrised rule
 abbrev pub parametrised_rule : List (Command × Option Told)
-parametrised_rule = untold (item_command (type_item (codes "list") 1))
-    ∷ untold (item_command (type_item (codes "fs") 1))
-    ∷ untold (item_command (const_item (codes "Rf") (fun (tc "list" ((tv "a") ∷ [])) (fun (tc "list" ((tv "a") ∷ [])) bool))))
-    ∷ untold (item_command (const_item (codes "abs_fs") (fun (tc "list" ((tv "a") ∷ [])) (tc "fs" ((tv "a") ∷ [])))))
-    ∷ untold (item_command (const_item (codes "rep_fs") (fun (tc "fs" ((tv "a") ∷ [])) (tc "list" ((tv "a") ∷ [])))))
-    ∷ untold (item_command (const_item (codes "cr_fs") (fun (tc "list" ((tv "a") ∷ [])) (fun (tc "fs" ((tv "a") ∷ [])) bool))))
-    ∷ untold (item_command (axiom_item (codes "Q_fs") (ap (ap (ap (ap (cn "Quotient" ((tc "list" ((tv "a") ∷ [])) ∷ (tc "fs" ((tv "a") ∷ [])) ∷ [])) (cn "Rf" ((tv "a") ∷ []))) (cn "abs_fs" ((tv "a") ∷ []))) (cn "rep_fs" ((tv "a") ∷ []))) (cn "cr_fs" ((tv "a") ∷ [])))))
-    ∷ untold (lifting_command (codes "Q_fs"))
-    ∷ untold (item_command (const_item (codes "list_all2") (fun (fun (tv "a") (fun (tv "b") bool)) (fun (tc "list" ((tv "a") ∷ [])) (fun (tc "list" ((tv "b") ∷ [])) bool)))))
-    ∷ untold (item_command (const_item (codes "map") (fun (fun (tv "a") (tv "b")) (fun (tc "list" ((tv "a") ∷ [])) (tc "list" ((tv "b") ∷ []))))))
-    ∷ untold (item_command (axiom_item (codes "list_eq") (ap (ap (cn "eq" ((fun (tc "list" ((tv "a") ∷ [])) (fun (tc "list" ((tv "a") ∷ [])) bool)) ∷ [])) (ap (cn "list_all2" ((tv "a") ∷ (tv "a") ∷ [])) (cn "eq" ((tv "a") ∷ [])))) (cn "eq" ((tc "list" ((tv "a") ∷ [])) ∷ [])))))
-    ∷ untold (item_command (axiom_item (codes "list_quotient") (ap (cn "all" ((fun (tv "a") (fun (tv "a") bool)) ∷ [])) (lm "x0" (fun (tv "a") (fun (tv "a") bool)) (ap (cn "all" ((fun (tv "a") (tv "b")) ∷ [])) (lm "x1" (fun (tv "a") (tv "b")) (ap (cn "all" ((fun (tv "b") (tv "a")) ∷ [])) (lm "x2" (fun (tv "b") (tv "a")) (ap (cn "all" ((fun (tv "a") (fun (tv "b") bool)) ∷ [])) (lm "x3" (fun (tv "a") (fun (tv "b") bool)) (ap (ap (cn "imp" ([])) (ap (ap (ap (ap (cn "Quotient" ((tv "a") ∷ (tv "b") ∷ [])) (bn "x0")) (bn "x1")) (bn "x2")) (bn "x3"))) (ap (ap (ap (ap (cn "Quotient" ((tc "list" ((tv "a") ∷ [])) ∷ (tc "list" ((tv "b") ∷ [])) ∷ [])) (ap (cn "list_all2" ((tv "a") ∷ (tv "a") ∷ [])) (bn "x0"))) (ap (cn "map" ((tv "a") ∷ (tv "b") ∷ [])) (bn "x1"))) (ap (cn "map" ((tv "b") ∷ (tv "a") ∷ [])) (bn "x2"))) (ap (cn "list_all2" ((tv "a") ∷ (tv "b") ∷ [])) (bn "x3"))))))))))))))
-    ∷ untold (item_command (axiom_item (codes "list_comp") (ap (cn "all" ((fun (tv "a") (fun (tv "b") bool)) ∷ [])) (lm "x0" (fun (tv "a") (fun (tv "b") bool)) (ap (cn "all" ((fun (tv "b") (fun (tv "c") bool)) ∷ [])) (lm "x1" (fun (tv "b") (fun (tv "c") bool)) (ap (ap (cn "eq" ((fun (tc "list" ((tv "a") ∷ [])) (fun (tc "list" ((tv "c") ∷ [])) bool)) ∷ [])) (ap (cn "list_all2" ((tv "a") ∷ (tv "c") ∷ [])) (ap (ap (cn "relcompp" ((tv "a") ∷ (tv "b") ∷ (tv "c") ∷ [])) (bn "x0")) (bn "x1")))) (ap (ap (cn "relcompp" ((tc "list" ((tv "a") ∷ [])) ∷ (tc "list" ((tv "b") ∷ [])) ∷ (tc "list" ((tv "c") ∷ [])) ∷ [])) (ap (cn "list_all2" ((tv "a") ∷ (tv "b") ∷ [])) (bn "x0"))) (ap (cn "list_all2" ((tv "b") ∷ (tv "c") ∷ [])) (bn "x1"))))))))))
-    ∷ untold (relator_command (codes "list") (codes "list_all2") (codes "map") (codes "list_eq") (codes "list_quotient") (codes "list_comp"))
-    ∷ untold (parametric_command (codes "fs"))
-    ∷ untold (item_command (const_item (codes "nl") (tc "list" ((tv "a") ∷ []))))
-    ∷ untold (item_command (axiom_item (codes "nl_resp") (ap (ap (cn "Rf" ((tv "a") ∷ [])) (cn "nl" ((tv "a") ∷ []))) (cn "nl" ((tv "a") ∷ [])))))
-    ∷ untold (lift_command (codes "fnil") (tc "fs" ((tv "a") ∷ [])) (cn "nl" ((tv "a") ∷ [])) (codes "nl_resp"))
-    ∷ untold (item_command (axiom_item (codes "nl_par") (ap (cn "all" ((fun (tv "l") (fun (tv "r") bool)) ∷ [])) (lm "x0" (fun (tv "l") (fun (tv "r") bool)) (ap (ap (ap (cn "list_all2" ((tv "l") ∷ (tv "r") ∷ [])) (bn "x0")) (cn "nl" ((tv "l") ∷ []))) (cn "nl" ((tv "r") ∷ [])))))))
+parametrised_rule = parametrised
+    ++ (untold (item_command (const_item (codes "nl") (list (tv "a"))))
+    ∷ untold (item_command (axiom_item (codes "nl_resp") (ap (ap (cn "Rf" ((tv "a") ∷ [])) (cn "nl"
+    ((tv "a") ∷ []))) (cn "nl" ((tv "a") ∷ [])))))
+    ∷ untold (lift_command (codes "fnil") (tc "fs" ((tv "a") ∷ [])) (cn "nl" ((tv "a") ∷ [])) (codes
+    "nl_resp"))
+    ∷ untold (item_command (axiom_item (codes "nl_par") (ap (cn "all" ((fun (tv "l") (fun (tv "r")
+    bool)) ∷ [])) (lm "x0" (fun (tv "l") (fun (tv "r") bool)) (ap (ap (ap (cn "list_all2" ((tv
+    "l") ∷ (tv "r") ∷ [])) (bn "x0")) (cn "nl" ((tv "l") ∷ []))) (cn "nl" ((tv "r") ∷ [])))))))
     ∷ untold (param_rule_command (codes "fnil_par") (codes "fnil_transfer") (codes "nl_par"))
-    ∷ []
+    ∷ [])
