@@ -17,14 +17,15 @@ use Rattle.lt_grammar.specs.declared.words.CommandWord.TheVariants.{Law, Corr, R
 use Rattle.lt_grammar.specs.declared.words.Head.TheVariants.{Lemma, Item as AnItem, Command as ACommand}
 use Rattle.lt_texts.specs.Writing.{TermText, word, bound, free, lambda, TermTexts, no_more_terms, more_terms, term_of_text, applied_to}
 use Rattle.lt_texts.specs.Writing as writing
-use Rattle.lt_grammar.specs.Rows.{Text, Texts, From, FromAll, given, given_all, Row}
+use Rattle.lt_grammar.specs.Rows.{Text, Texts, Row}
 use Rattle.lt_grammar.specs.Table.{rule_row, item_row, lemma_parts, command_row}
+use Rattle.lt_grammar.proofs.RowPieces.{meaning, meanings, meaning-made}
 use Rattle.lt_grammar.specs.RowTexts.{row_meaning, LineText, line, rule_of_text, PartText, header, item, lemma, command}
 use Rattle.lt_commands.specs.declared.note.Note.{Note}
 use Rattle.lt_commands.specs.declared.note.Note.TheVariants.{TypeOpen, TypeClose, KeepType, ConstantName, Arguments, FreeName, FreeClose, LambdaName, LambdaClose, Apply, KeepTerm, Parameter, KeepParameters, BeginLine, EndLine}
 use Rattle.lt_commands.specs.Notes.{type_notes, types_notes, later_notes, arguments_notes, term_notes, terms_notes, parameters_notes, part_notes, parts_notes, lines_notes, text_notes, head_of_text, meant_by}
 use Rattle.lt_commands.specs.Sinks.{kept_by}
-use Rattle.lt_commands.specs.Making.{Made, nothing, closed, with_growing, keep_type, Meaning, Meanings, given_meaning, given_meanings, both, pop, pops, applied_if, make_row, with_line, put, put_all, as_item, command_made}
+use Rattle.lt_commands.specs.Making.{Made, nothing, closed, with_growing, keep_type, both, pop, pops, applied_if, make_row, with_line, put, put_all, as_item, command_made}
 
 -- ---- types
 
@@ -240,20 +241,6 @@ parts-make y (p ∷ ps) ts ns m f r =
     let e : put_all (part_notes p ts.0 ns) m ≡ pushed_part p ts.0 (put_all ns m) = part-makes y p ts.0 ns m both.0 r in
     parts-make y ps ts.1 (part_notes p ts.0 ns) m both.1 (subst (IsReady y) (sym e) (still-ready y p ts.0 (put_all ns m) r)) ∙ ap (pushed_parts ps ts.1) e
 
-abbrev meaning : (p : Part) → Text p → Meaning p
-meaning ALabel a = a
-meaning ANumber a = a
-meaning AVariable a = a
-meaning Parameters a = a
-meaning AType a = a
-meaning AStatement a = term_of_text a
-meaning ATerm a = term_of_text a
-meaning (Fixed x) a = tt
-
-abbrev meanings : (ps : List Part) → Texts ps → Meanings ps
-meanings [] ts = tt
-meanings (p ∷ ps) ts = (meaning p ts.0, meanings ps ts.1)
-
 pop-pushed : (p : Part) (a : Text p) (k : Made) → pop p (pushed_part p a k) ≡ (Some (meaning p a), k)
 pop-pushed ALabel a k = refl
 pop-pushed ANumber a k = refl
@@ -270,24 +257,10 @@ pops-pushed (p ∷ ps) ts k =
     ap (λ r. (both (pop p r.1).0 r.0, (pop p r.1).1)) (pops-pushed ps ts.1 (pushed_part p ts.0 k))
     ∙ ap (λ v. (both v.0 (Some (meanings ps ts.1)), v.1)) (pop-pushed p ts.0 k)
 
-applied-given : {C : Type 0} (p : Part) (f : From p C) (a : Text p) → given_meaning p f (meaning p a) ≡ given p f a
-applied-given ALabel f a = refl
-applied-given ANumber f a = refl
-applied-given AVariable f a = refl
-applied-given Parameters f a = refl
-applied-given AType f a = refl
-applied-given AStatement f a = refl
-applied-given ATerm f a = refl
-applied-given (Fixed x) f a = refl
-
-applied-all-given : {C : Type 0} (ps : List Part) (f : FromAll ps C) (ts : Texts ps) → given_meanings ps f (meanings ps ts) ≡ given_all ps f ts
-applied-all-given [] f ts = refl
-applied-all-given {C} (p ∷ ps) f ts = ap (λ (g : FromAll ps C). given_meanings ps g (meanings ps ts.1)) (applied-given p f ts.0) ∙ applied-all-given ps (given p f ts.0) ts.1
-
 row-makes : {C : Type 0} (r : Row C) (ts : Texts r.parts) (k : Made) → make_row r (pushed_parts r.parts ts k) ≡ (Some (row_meaning r ts), k)
 row-makes r ts k =
     ap (λ v. (applied_if r v.0, v.1)) (pops-pushed r.parts ts k)
-    ∙ (λ i. (Some (applied-all-given r.parts r.make ts i), k))
+    ∙ (λ i. (Some (sym (meaning-made r ts) i), k))
 
 -- ---- lines and commands
 

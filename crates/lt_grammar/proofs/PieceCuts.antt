@@ -30,10 +30,10 @@ use Rattle.lt_grammar.specs.declared.words.Fixed.{Fixed}
 use Rattle.lt_grammar.specs.declared.words.Fixed.TheVariants as signs
 use Rattle.lt_grammar.specs.declared.words.Part.{Part}
 use Rattle.lt_grammar.specs.declared.words.Part.TheVariants.{Label, Number as ANumber, Variable, Parameters, AType, AStatement, ATerm, Fixed as Exactly}
-use Rattle.lt_grammar.specs.Rows.{Row, fixed, variables_lexemes, Texts, parts_lexemes}
+use Rattle.lt_grammar.specs.Rows.{Row, fixed, variables_lexemes, Texts, parts_lexemes, Meanings}
 use Rattle.lt_grammar.specs.RowTexts.{row_lexemes}
 use Rattle.lt_grammar.proofs.OneWay.{IsClear, fixed_clear, type_clear, term_clear}
-use Rattle.lt_grammar.proofs.RowPieces.{Args, args, fixed_piece, parts_pieces, row_pieces}
+use Rattle.lt_grammar.proofs.RowPieces.{meanings, fixed_piece, parts_pieces, row_pieces}
 use Rattle.lt_grammar.proofs.Shown.{shown, none_loose, shown_is_alpha}
 use Rattle.lt_grammar.proofs.Cuts.{Cuts, passed, cut_name, cut_variable, IsSign, cut-sign, spaced, stops-at, Stopped, cut_type, cut_term}
 
@@ -244,10 +244,10 @@ alike-readable : (t : TermTree) → IsReadable t → IsAlphaEqual (term_of_text 
 alike-readable t (l, n, m) = shown_is_alpha t l m
 
 -- texts of parts that are alike, and cut so
-abbrev PartsCut : (ps : List Part) → Args ps → Type 0
-PartsCut ps vs = (ts : Texts ps) × AreAlike (parts_pieces ps (args ps ts) []) (parts_pieces ps vs []) × CutBehind (spaced_text (parts_pieces ps vs [])) (parts_lexemes ps ts)
+abbrev PartsCut : (ps : List Part) → Meanings ps → Type 0
+PartsCut ps vs = (ts : Texts ps) × AreAlike (parts_pieces ps (meanings ps ts) []) (parts_pieces ps vs []) × CutBehind (spaced_text (parts_pieces ps vs [])) (parts_lexemes ps ts)
 
-pub parts_cut : (ps : List Part) (vs : Args ps) → AreReadable (parts_pieces ps vs []) → PartsCut ps vs
+pub parts_cut : (ps : List Part) (vs : Meanings ps) → AreReadable (parts_pieces ps vs []) → PartsCut ps vs
 parts_cut [] vs r = (tt, tt, λ cs ws rest e n l. l)
 parts_cut (Label ∷ ps) vs r =
     let k = parts_cut ps vs.1 r.1 in
@@ -276,7 +276,7 @@ parts_cut (Variable ∷ ps) vs r =
 parts_cut (Parameters ∷ ps) vs r =
     let later : List Piece = parts_pieces ps vs.1 [] in
     let k = parts_cut ps vs.1 (readable-behind vs.0 later r) in
-    ((vs.0, k.0), alike-behind vs.0 (parts_pieces ps (args ps k.0) []) later k.1, variables-cut vs.0 later (parts_lexemes ps k.0) r k.2)
+    ((vs.0, k.0), alike-behind vs.0 (parts_pieces ps (meanings ps k.0) []) later k.1, variables-cut vs.0 later (parts_lexemes ps k.0) r k.2)
 parts_cut (AType ∷ ps) vs r =
     let k = parts_cut ps vs.1 r.1 in
     let later : List Piece = parts_pieces ps vs.1 [] in (
@@ -318,8 +318,8 @@ words_spaced w [] = sym (append-nil w)
 words_spaced w (p ∷ ps) = ap (λ (z : List ℕ). w ++ 32 ∷ z) (words_spaced (printed_piece p) ps)
 
 -- a row as it is printed, before further text
-pub row_cut : {C : Type 0} (r : Row C) (vs : Args r.parts) → is_ascii_name r.word ≡ true → AreReadable (parts_pieces r.parts vs [])
-    → (ts : Texts r.parts) × AreAlike (row_pieces r (args r.parts ts)) (row_pieces r vs)
+pub row_cut : {C : Type 0} (r : Row C) (vs : Meanings r.parts) → is_ascii_name r.word ≡ true → AreReadable (parts_pieces r.parts vs [])
+    → (ts : Texts r.parts) × AreAlike (row_pieces r (meanings r.parts ts)) (row_pieces r vs)
     × ((cs : List ℕ) (ws : List Lexeme) (rest : List ℕ) → Cuts cs ws rest → Cuts (words (map printed_piece (row_pieces r vs)) ++ 59 ∷ cs) (row_lexemes r ts ws) rest)
 row_cut r vs h q =
     let k = parts_cut r.parts vs q in

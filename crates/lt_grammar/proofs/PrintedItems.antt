@@ -24,11 +24,11 @@ use Rattle.lt_grammar.specs.declared.words.RuleWord.{RuleWord}
 use Rattle.lt_grammar.specs.declared.words.RuleWord.TheVariants.{Assume, Weaken, Refl, Sym, Trans, Cong, Abs, Beta, Eta, Eqmp, ImpI, Mp, AllI, AllE, Iff, Inst, Tinst, Select, Ccontr, Thm}
 use Rattle.lt_grammar.specs.declared.words.ItemWord.{ItemWord}
 use Rattle.lt_grammar.specs.declared.words.ItemWord.TheVariants.{TypeItem, Const, Axiom, Def, Typedef}
-use Rattle.lt_grammar.specs.Rows.{Texts, parts_lexemes}
+use Rattle.lt_grammar.specs.Rows.{Texts, parts_lexemes, Meanings}
 use Rattle.lt_grammar.specs.Table.{rule_row, item_row, lemma_parts}
 use Rattle.lt_grammar.specs.RowTexts.{row_lexemes, row_meaning, LineText, line, lines_lexemes, rule_of_text, PartText, header, item, lemma, text_lexemes, texts_lexemes, sentence_of}
 use Rattle.lt_grammar.proofs.OneWay.{IsClear}
-use Rattle.lt_grammar.proofs.RowPieces.{Args, args, parts_pieces, row_pieces, made_of, meaning-made, rule-text, rule-row, RowOfRule, item-text, join_written, sentence_written}
+use Rattle.lt_grammar.proofs.RowPieces.{meanings, parts_pieces, row_pieces, made_of, meaning-made, rule-text, rule-row, RowOfRule, item-text, join_written, sentence_written}
 use Rattle.lt_grammar.proofs.Cuts.{Cuts, cut_name, cut-sign, spaced, nothing_cut, cuts_spans, space-stops}
 use Rattle.lt_grammar.proofs.PieceCuts.{is_ascii_name, ascii_name, open_brace, close_brace, semicolon_sign, fed, space_ends, spaced_text, parts_cut, words_spaced, row_cut}
 use Rattle.lt_grammar.proofs.PieceScalars.{report_scalars}
@@ -63,14 +63,14 @@ item-name Axiom = refl
 item-name Def = refl
 item-name Typedef = refl
 
-item-head : (w : ItemWord) (vs : Args (item_row w).parts) → head_text (made_of (item_row w) vs) ≡ row_pieces (item_row w) vs
+item-head : (w : ItemWord) (vs : Meanings (item_row w).parts) → head_text (made_of (item_row w) vs) ≡ row_pieces (item_row w) vs
 item-head TypeItem vs = refl
 item-head Const vs = refl
 item-head Axiom vs = refl
 item-head Def vs = refl
 item-head Typedef vs = refl
 
-item-printed : (w : ItemWord) (vs : Args (item_row w).parts) → printed_item (made_of (item_row w) vs) ≡ printed_head (made_of (item_row w) vs) ++ codes ";\n"
+item-printed : (w : ItemWord) (vs : Meanings (item_row w).parts) → printed_item (made_of (item_row w) vs) ≡ printed_head (made_of (item_row w) vs) ++ codes ";\n"
 item-printed TypeItem vs = refl
 item-printed Const vs = refl
 item-printed Axiom vs = refl
@@ -100,16 +100,16 @@ abbrev LineCut : Rule TermTree → Type 0
 LineCut r = (w : RuleWord) × (ts : Texts (rule_row w).parts) × AreAlike (line_text (rule_of_text (line w ts))) (line_text r)
     × ((cs : List ℕ) (ws : List Lexeme) (rest : List ℕ) → Cuts cs ws rest → Cuts (printed_rule r ++ 59 ∷ cs) (row_lexemes (rule_row w) ts ws) rest)
 
-line-by-row : (w : RuleWord) (vs : Args (rule_row w).parts) → AreReadable (line_text (made_of (rule_row w) vs)) → LineCut (made_of (rule_row w) vs)
+line-by-row : (w : RuleWord) (vs : Meanings (rule_row w).parts) → AreReadable (line_text (made_of (rule_row w) vs)) → LineCut (made_of (rule_row w) vs)
 line-by-row w vs r =
     let row = rule_row w in
     let pieces : AreReadable (row_pieces row vs) = readable-first (row_pieces row vs) (semicolon ∷ []) (subst (λ (q : List Piece). AreReadable (q ++ semicolon ∷ [])) (rule-text w vs) r) in
     let k = row_cut row vs (rule-name w) pieces.1 in
-    let mine : rule_text (rule_of_text (line w k.0)) ≡ row_pieces row (args row.parts k.0) = ap rule_text (meaning-made row k.0) ∙ rule-text w (args row.parts k.0) in (
+    let mine : rule_text (rule_of_text (line w k.0)) ≡ row_pieces row (meanings row.parts k.0) = ap rule_text (meaning-made row k.0) ∙ rule-text w (meanings row.parts k.0) in (
       w,
       k.0,
       alike_append (rule_text (rule_of_text (line w k.0))) (rule_text (made_of row vs)) (semicolon ∷ []) (semicolon ∷ [])
-          (subst (λ (q : List Piece). AreAlike q (rule_text (made_of row vs))) (sym mine) (subst (AreAlike (row_pieces row (args row.parts k.0))) (sym (rule-text w vs)) k.1)) (refl, tt),
+          (subst (λ (q : List Piece). AreAlike q (rule_text (made_of row vs))) (sym mine) (subst (AreAlike (row_pieces row (meanings row.parts k.0))) (sym (rule-text w vs)) k.1)) (refl, tt),
       λ cs ws rest l. subst (λ (z : List ℕ). Cuts (z ++ 59 ∷ cs) (row_lexemes row k.0 ws) rest)
           (sym (printed_rule_pieces (made_of row vs) ∙ ap (λ (q : List Piece). words (map printed_piece q)) (rule-text w vs))) (k.2 cs ws rest l),
     )
@@ -156,17 +156,17 @@ item-allowed Axiom ts = refl
 item-allowed Def ts = refl
 item-allowed Typedef ts = refl
 
-item-by-row : (w : ItemWord) (vs : Args (item_row w).parts) → AreReadable (item_text (made_of (item_row w) vs)) → ItemCut (made_of (item_row w) vs)
+item-by-row : (w : ItemWord) (vs : Meanings (item_row w).parts) → AreReadable (item_text (made_of (item_row w) vs)) → ItemCut (made_of (item_row w) vs)
 item-by-row w vs r =
     let row = item_row w in
     let i : Item = made_of row vs in
     let pieces : AreReadable (row_pieces row vs) = subst AreReadable (item-text w vs) r in
     let k = row_cut row vs (item-name w) pieces.1 in
-    let mine : item_text (row_meaning row k.0) ≡ row_pieces row (args row.parts k.0) = ap item_text (meaning-made row k.0) ∙ item-text w (args row.parts k.0) in (
+    let mine : item_text (row_meaning row k.0) ≡ row_pieces row (meanings row.parts k.0) = ap item_text (meaning-made row k.0) ∙ item-text w (meanings row.parts k.0) in (
       item w k.0,
       row_meaning row k.0,
       refl,
-      subst (λ (q : List Piece). AreAlike q (item_text i)) (sym mine) (subst (AreAlike (row_pieces row (args row.parts k.0))) (sym (item-text w vs)) k.1),
+      subst (λ (q : List Piece). AreAlike q (item_text i)) (sym mine) (subst (AreAlike (row_pieces row (meanings row.parts k.0))) (sym (item-text w vs)) k.1),
       item-allowed w k.0,
       λ cs ws rest l.
           let text : List ℕ = words (map printed_piece (row_pieces row vs)) in
@@ -217,7 +217,7 @@ lemma-cut l t rules r =
 
 -- an item by its row, or a lemma
 abbrev RowOfItem : Item → Type 0
-RowOfItem i = ((w : ItemWord) × (vs : Args (item_row w).parts) × (made_of (item_row w) vs ≡ i)) ⊎ ((l : Chars) × (t : TermTree) × (lines : List (Rule TermTree)) × (lemma_item l t lines ≡ i))
+RowOfItem i = ((w : ItemWord) × (vs : Meanings (item_row w).parts) × (made_of (item_row w) vs ≡ i)) ⊎ ((l : Chars) × (t : TermTree) × (lines : List (Rule TermTree)) × (lemma_item l t lines ≡ i))
 
 item-rows : (i : Item) → RowOfItem i
 item-rows (type_item n k) = inl (TypeItem, (n, (k, tt)), refl)

@@ -3,7 +3,7 @@ use Rattle.std.proofs.Common.{◌≡◌, ℕ, ◌∙◌, ap, sym, refl, subst, i
 use Rattle.std.specs.Prelude.{◌⊎◌, map, codes}
 use Rattle.std.specs.List.{flat_map}
 use Rattle.lt_texts.specs.declared.lexical.TokenKind.TheVariants as kinds
-use Rattle.lt_definitions.specs.Types.{Chars, TypeTree}
+use Rattle.lt_definitions.specs.Types.{Chars}
 use Rattle.lt_definitions.specs.Terms.{TermTree}
 use Rattle.lt_definitions.specs.Rules.{Rule, by_assume, by_weaken, by_refl, by_sym, by_trans, by_cong, by_abs, by_beta, by_eta, by_eqmp, by_impI, by_mp, by_allI, by_allE, by_iff, by_inst, by_tinst, by_select, by_ccontr, by_thm}
 use Rattle.lt_definitions.specs.Items.{Item, type_item, const_item, axiom_item, def_item, typedef_item, lemma_item}
@@ -22,7 +22,7 @@ use Rattle.lt_grammar.specs.declared.words.ItemWord.{ItemWord}
 use Rattle.lt_grammar.specs.declared.words.ItemWord.TheVariants.{TypeItem, Const, Axiom, Def, Typedef}
 use Rattle.lt_grammar.specs.declared.words.CommandWord.{CommandWord}
 use Rattle.lt_grammar.specs.declared.words.CommandWord.TheVariants.{Law, Corr, Relator, Property, Domain, Rule as RuleCommand, Lifting, LiftingTypedef, QuotientType, Lift, Parametric, ParamRule, Equiv, Implies, Carry, AbsEq, RepEq}
-use Rattle.lt_grammar.specs.Rows.{Row, fixed, Text, number, variables_lexemes, From, Texts, parts_lexemes, FromAll, given_all}
+use Rattle.lt_grammar.specs.Rows.{Row, fixed, Text, number, variables_lexemes, Texts, parts_lexemes, FromAll, given_all, Meaning, Meanings, given_meanings}
 use Rattle.lt_grammar.specs.Table.{rule_row, item_row, command_row}
 use Rattle.lt_grammar.specs.RowTexts.{row_lexemes, row_meaning, LineText, line, lines_lexemes, rule_of_text, PartText, header, item, lemma, command, text_lexemes, MayStand, sentence_of}
 
@@ -38,33 +38,19 @@ split_written (p ∷ ps) qs ws rest h = let r = split_written ps qs h.0 rest h.2
 
 -- ---- what a part stands for, and its pieces
 
-abbrev pub Arg : Part → Type 0
-Arg Label = Chars
-Arg Number = ℕ
-Arg Variable = Chars
-Arg Parameters = List Chars
-Arg AType = TypeTree
-Arg AStatement = TermTree
-Arg ATerm = TermTree
-Arg (Exactly k) = Unit {0}
+abbrev pub meaning : (p : Part) → Text p → Meaning p
+meaning Label n = n
+meaning Number k = k
+meaning Variable a = a
+meaning Parameters names = names
+meaning AType ty = ty
+meaning AStatement t = term_of_text t
+meaning ATerm t = term_of_text t
+meaning (Exactly k) u = u
 
-abbrev pub Args : List Part → Type 0
-Args [] = Unit {0}
-Args (p ∷ ps) = Arg p × Args ps
-
-abbrev pub arg : (p : Part) → Text p → Arg p
-arg Label n = n
-arg Number k = k
-arg Variable a = a
-arg Parameters names = names
-arg AType ty = ty
-arg AStatement t = term_of_text t
-arg ATerm t = term_of_text t
-arg (Exactly k) u = u
-
-abbrev pub args : (ps : List Part) → Texts ps → Args ps
-args [] ts = tt
-args (p ∷ ps) ts = (arg p ts.0, args ps ts.1)
+abbrev pub meanings : (ps : List Part) → Texts ps → Meanings ps
+meanings [] ts = tt
+meanings (p ∷ ps) ts = (meaning p ts.0, meanings ps ts.1)
 
 abbrev pub fixed_piece : Fixed → Piece
 fixed_piece signs.Semicolon = sign_piece kinds.Semicolon
@@ -75,7 +61,7 @@ fixed_piece signs.By = keyword "by"
 fixed_piece signs.Abs = keyword "abs"
 fixed_piece signs.Rep = keyword "rep"
 
-abbrev pub part_pieces : (p : Part) → Arg p → List Piece → List Piece
+abbrev pub part_pieces : (p : Part) → Meaning p → List Piece → List Piece
 part_pieces Label n more = name_piece n ∷ more
 part_pieces Number k more = number_piece k ∷ more
 part_pieces Variable a more = variable_piece a ∷ more
@@ -85,25 +71,11 @@ part_pieces AStatement t more = statement_piece t ∷ more
 part_pieces ATerm t more = term_piece t ∷ more
 part_pieces (Exactly k) u more = fixed_piece k ∷ more
 
-abbrev pub parts_pieces : (ps : List Part) → Args ps → List Piece → List Piece
+abbrev pub parts_pieces : (ps : List Part) → Meanings ps → List Piece → List Piece
 parts_pieces [] vs more = more
 parts_pieces (p ∷ ps) vs more = part_pieces p vs.0 (parts_pieces ps vs.1 more)
 
-abbrev pub given_arg : {C : Type 0} → (p : Part) → From p C → Arg p → C
-given_arg Label f n = f n
-given_arg Number f k = f k
-given_arg Variable f a = f a
-given_arg Parameters f names = f names
-given_arg AType f ty = f ty
-given_arg AStatement f t = f t
-given_arg ATerm f t = f t
-given_arg (Exactly k) c u = c
-
-abbrev pub made : {C : Type 0} → (ps : List Part) → FromAll ps C → Args ps → C
-made [] c vs = c
-made (p ∷ ps) f vs = made ps (given_arg p f vs.0) vs.1
-
-given-made : {C : Type 0} (ps : List Part) (f : FromAll ps C) (ts : Texts ps) → given_all ps f ts ≡ made ps f (args ps ts)
+given-made : {C : Type 0} (ps : List Part) (f : FromAll ps C) (ts : Texts ps) → given_all ps f ts ≡ given_meanings ps f (meanings ps ts)
 given-made [] f ts = refl
 given-made (Label ∷ ps) f ts = given-made ps (f ts.0) ts.1
 given-made (Number ∷ ps) f ts = given-made ps (f ts.0) ts.1
@@ -145,7 +117,7 @@ written-variables (a ∷ names) more ws rest h =
     let r = written-variables names more h.0 rest h.2 in (r.0, h.1 ∙ ap (λ (z : List Lexeme). a_variable a ∷ z) r.1, r.2)
 
 pub pieces_written : (ps : List Part) (ts : Texts ps) (more : List Piece) (ws rest : List Lexeme) → AreWritten more ws rest
-    → AreWritten (parts_pieces ps (args ps ts) more) (parts_lexemes ps ts ws) rest
+    → AreWritten (parts_pieces ps (meanings ps ts) more) (parts_lexemes ps ts ws) rest
 pieces_written [] ts more ws rest h = h
 pieces_written (Label ∷ ps) ts more ws rest h = (_, refl, pieces_written ps ts.1 more ws rest h)
 pieces_written (Number ∷ ps) ts more ws rest h = (_, refl, pieces_written ps ts.1 more ws rest h)
@@ -157,10 +129,10 @@ pieces_written (ATerm ∷ ps) ts more ws rest h = (parts_lexemes ps ts.1 ws, (ts
 pieces_written (Exactly k ∷ ps) ts more ws rest h = (parts_lexemes ps ts.1 ws, fixed-written k _, pieces_written ps ts.1 more ws rest h)
 
 -- the texts of parts with these lexemes before the rest
-abbrev Found : (ps : List Part) → Args ps → List Piece → List Lexeme → List Lexeme → Type 0
-Found ps vs more ws rest = (ts : Texts ps) × (args ps ts ≡ vs) × (mid : List Lexeme) × (ws ≡ parts_lexemes ps ts mid) × AreWritten more mid rest
+abbrev Found : (ps : List Part) → Meanings ps → List Piece → List Lexeme → List Lexeme → Type 0
+Found ps vs more ws rest = (ts : Texts ps) × (meanings ps ts ≡ vs) × (mid : List Lexeme) × (ws ≡ parts_lexemes ps ts mid) × AreWritten more mid rest
 
-pub written_pieces : (ps : List Part) (vs : Args ps) (more : List Piece) (ws rest : List Lexeme) → AreWritten (parts_pieces ps vs more) ws rest → Found ps vs more ws rest
+pub written_pieces : (ps : List Part) (vs : Meanings ps) (more : List Piece) (ws rest : List Lexeme) → AreWritten (parts_pieces ps vs more) ws rest → Found ps vs more ws rest
 written_pieces [] vs more ws rest h = (tt, refl, ws, refl, h)
 written_pieces (Label ∷ ps) vs more ws rest h =
     let r = written_pieces ps vs.1 more h.0 rest h.2 in
@@ -196,7 +168,7 @@ written_pieces (Exactly k ∷ ps) vs more ws rest h =
     ((vs.0, r.0), λ i. (vs.0, r.1 i), r.2, written-fixed k ws h.0 h.1 ∙ ap (λ (z : List Lexeme). fixed k ∷ z) r.3, r.4)
 
 -- further pieces behind those of parts
-pieces-append : (ps : List Part) (vs : Args ps) (more later : List Piece) → parts_pieces ps vs more ++ later ≡ parts_pieces ps vs (more ++ later)
+pieces-append : (ps : List Part) (vs : Meanings ps) (more later : List Piece) → parts_pieces ps vs more ++ later ≡ parts_pieces ps vs (more ++ later)
 pieces-append [] vs more later = refl
 pieces-append (Label ∷ ps) vs more later = ap (λ (z : List Piece). name_piece vs.0 ∷ z) (pieces-append ps vs.1 more later)
 pieces-append (Number ∷ ps) vs more later = ap (λ (z : List Piece). number_piece vs.0 ∷ z) (pieces-append ps vs.1 more later)
@@ -212,13 +184,13 @@ pieces-append (Exactly k ∷ ps) vs more later = ap (λ (z : List Piece). fixed_
 -- ---- rows
 
 -- the pieces of a row
-abbrev pub row_pieces : {C : Type 0} → (r : Row C) → Args r.parts → List Piece
+abbrev pub row_pieces : {C : Type 0} → (r : Row C) → Meanings r.parts → List Piece
 row_pieces r vs = word_piece r.word ∷ parts_pieces r.parts vs []
 
-abbrev pub made_of : {C : Type 0} → (r : Row C) → Args r.parts → C
-made_of r vs = made r.parts r.make vs
+abbrev pub made_of : {C : Type 0} → (r : Row C) → Meanings r.parts → C
+made_of r vs = given_meanings r.parts r.make vs
 
-pub rule-text : (w : RuleWord) (vs : Args (rule_row w).parts) → rule_text (made_of (rule_row w) vs) ≡ row_pieces (rule_row w) vs
+pub rule-text : (w : RuleWord) (vs : Meanings (rule_row w).parts) → rule_text (made_of (rule_row w) vs) ≡ row_pieces (rule_row w) vs
 rule-text Assume vs = refl
 rule-text Weaken vs = refl
 rule-text Refl vs = refl
@@ -240,14 +212,14 @@ rule-text Select vs = refl
 rule-text Ccontr vs = refl
 rule-text Thm vs = refl
 
-pub item-text : (w : ItemWord) (vs : Args (item_row w).parts) → item_text (made_of (item_row w) vs) ≡ row_pieces (item_row w) vs
+pub item-text : (w : ItemWord) (vs : Meanings (item_row w).parts) → item_text (made_of (item_row w) vs) ≡ row_pieces (item_row w) vs
 item-text TypeItem vs = refl
 item-text Const vs = refl
 item-text Axiom vs = refl
 item-text Def vs = refl
 item-text Typedef vs = refl
 
-command-text : (w : CommandWord) (vs : Args (command_row w).parts) → command_text (made_of (command_row w) vs) ≡ row_pieces (command_row w) vs
+command-text : (w : CommandWord) (vs : Meanings (command_row w).parts) → command_text (made_of (command_row w) vs) ≡ row_pieces (command_row w) vs
 command-text Law vs = refl
 command-text Corr vs = refl
 command-text Relator vs = refl
@@ -268,7 +240,7 @@ command-text RepEq vs = refl
 
 -- the row of a rule
 abbrev pub RowOfRule : Rule TermTree → Type 0
-RowOfRule r = (w : RuleWord) × (vs : Args (rule_row w).parts) × (made_of (rule_row w) vs ≡ r)
+RowOfRule r = (w : RuleWord) × (vs : Meanings (rule_row w).parts) × (made_of (rule_row w) vs ≡ r)
 
 pub rule-row : (r : Rule TermTree) → RowOfRule r
 rule-row (by_assume p) = (Assume, (p, tt), refl)
@@ -294,8 +266,8 @@ rule-row (by_thm l) = (Thm, (l, tt), refl)
 
 -- a command by its row, or a lemma
 abbrev pub RowOfCommand : Command → Type 0
-RowOfCommand c = ((w : CommandWord) × (vs : Args (command_row w).parts) × (made_of (command_row w) vs ≡ c))
-    ⊎ ((w : ItemWord) × (vs : Args (item_row w).parts) × (item_command (made_of (item_row w) vs) ≡ c))
+RowOfCommand c = ((w : CommandWord) × (vs : Meanings (command_row w).parts) × (made_of (command_row w) vs ≡ c))
+    ⊎ ((w : ItemWord) × (vs : Meanings (item_row w).parts) × (item_command (made_of (item_row w) vs) ≡ c))
     ⊎ ((l : Chars) × (t : TermTree) × (lines : List (Rule TermTree)) × (item_command (lemma_item l t lines) ≡ c))
 
 pub command-row : (c : Command) → RowOfCommand c
@@ -324,19 +296,19 @@ command-row (abs_eq_command c) = inl (AbsEq, (c, tt), refl)
 command-row (rep_eq_command c) = inl (RepEq, (c, tt), refl)
 
 -- a text that has a row's pieces is written vs the row
-row-written : {C : Type 0} (r : Row C) (text : List Piece) (ts : Texts r.parts) (rest : List Lexeme) → text ≡ row_pieces r (args r.parts ts)
+row-written : {C : Type 0} (r : Row C) (text : List Piece) (ts : Texts r.parts) (rest : List Lexeme) → text ≡ row_pieces r (meanings r.parts ts)
     → AreWritten (text ++ semicolon ∷ []) (row_lexemes r ts rest) rest
 row-written r text ts rest e =
     subst (λ (q : List Piece). AreWritten (q ++ semicolon ∷ []) (row_lexemes r ts rest) rest) (sym e) (
       _,
       refl,
       subst (λ (q : List Piece). AreWritten q (parts_lexemes r.parts ts (a_sign kinds.Semicolon ∷ rest)) rest)
-          (sym (pieces-append r.parts (args r.parts ts) [] (semicolon ∷ [])))
+          (sym (pieces-append r.parts (meanings r.parts ts) [] (semicolon ∷ [])))
           (pieces_written r.parts ts (semicolon ∷ []) (a_sign kinds.Semicolon ∷ rest) rest (rest, refl, refl)),
     )
 
-written-row : {C : Type 0} (r : Row C) (text : List Piece) (vs : Args r.parts) (ws rest : List Lexeme) → text ≡ row_pieces r vs → AreWritten (text ++ semicolon ∷ []) ws rest
-    → (ts : Texts r.parts) × (args r.parts ts ≡ vs) × (ws ≡ row_lexemes r ts rest)
+written-row : {C : Type 0} (r : Row C) (text : List Piece) (vs : Meanings r.parts) (ws rest : List Lexeme) → text ≡ row_pieces r vs → AreWritten (text ++ semicolon ∷ []) ws rest
+    → (ts : Texts r.parts) × (meanings r.parts ts ≡ vs) × (ws ≡ row_lexemes r ts rest)
 written-row r text vs ws rest e h =
     let g : AreWritten (row_pieces r vs ++ semicolon ∷ []) ws rest = subst (λ (q : List Piece). AreWritten (q ++ semicolon ∷ []) ws rest) e h in
     let k : AreWritten (parts_pieces r.parts vs (semicolon ∷ [])) g.0 rest =
@@ -345,14 +317,14 @@ written-row r text vs ws rest e h =
     let s = f.4 in
     (f.0, f.1, g.1 ∙ ap (λ (z : List Lexeme). a_name r.word ∷ z) (f.3 ∙ ap (parts_lexemes r.parts f.0) (s.1 ∙ ap (λ (z : List Lexeme). a_sign kinds.Semicolon ∷ z) s.2)))
 
-pub meaning-made : {C : Type 0} (r : Row C) (ts : Texts r.parts) → row_meaning r ts ≡ made_of r (args r.parts ts)
+pub meaning-made : {C : Type 0} (r : Row C) (ts : Texts r.parts) → row_meaning r ts ≡ made_of r (meanings r.parts ts)
 meaning-made r ts = given-made r.parts r.make ts
 
 -- ---- lines
 
 line-written : (w : RuleWord) (ts : Texts (rule_row w).parts) (rest : List Lexeme) → AreWritten (line_text (rule_of_text (line w ts))) (row_lexemes (rule_row w) ts rest) rest
 line-written w ts rest =
-    row-written (rule_row w) (rule_text (rule_of_text (line w ts))) ts rest (ap rule_text (meaning-made (rule_row w) ts) ∙ rule-text w (args (rule_row w).parts ts))
+    row-written (rule_row w) (rule_text (rule_of_text (line w ts))) ts rest (ap rule_text (meaning-made (rule_row w) ts) ∙ rule-text w (meanings (rule_row w).parts ts))
 
 pub lines_written : (lines : List LineText) (more : List Piece) (ws rest : List Lexeme) → AreWritten more ws rest
     → AreWritten (flat_map line_text (map rule_of_text lines) ++ more) (lines_lexemes lines ws) rest
@@ -396,11 +368,11 @@ lemma-pieces l t rules =
     ap (λ (z : List Piece). keyword "lemma" ∷ name_piece l ∷ colon ∷ statement_piece t ∷ sign_piece kinds.OpenBrace ∷ z)
     (append_assoc (flat_map line_text rules) (sign_piece kinds.CloseBrace ∷ []) (semicolon ∷ []))
 
-item-row-text : (w : ItemWord) (ts : Texts (item_row w).parts) → command_text (item_command (row_meaning (item_row w) ts)) ≡ row_pieces (item_row w) (args (item_row w).parts ts)
-item-row-text w ts = ap item_text (meaning-made (item_row w) ts) ∙ item-text w (args (item_row w).parts ts)
+item-row-text : (w : ItemWord) (ts : Texts (item_row w).parts) → command_text (item_command (row_meaning (item_row w) ts)) ≡ row_pieces (item_row w) (meanings (item_row w).parts ts)
+item-row-text w ts = ap item_text (meaning-made (item_row w) ts) ∙ item-text w (meanings (item_row w).parts ts)
 
-command-row-text : (w : CommandWord) (ts : Texts (command_row w).parts) → command_text (row_meaning (command_row w) ts) ≡ row_pieces (command_row w) (args (command_row w).parts ts)
-command-row-text w ts = ap command_text (meaning-made (command_row w) ts) ∙ command-text w (args (command_row w).parts ts)
+command-row-text : (w : CommandWord) (ts : Texts (command_row w).parts) → command_text (row_meaning (command_row w) ts) ≡ row_pieces (command_row w) (meanings (command_row w).parts ts)
+command-row-text w ts = ap command_text (meaning-made (command_row w) ts) ∙ command-text w (meanings (command_row w).parts ts)
 
 pub sentence_written : (f : Form) (p : PartText) (rest : List Lexeme) → AreWritten (sentence_text f (sentence_of p)) (text_lexemes f p rest) rest
 sentence_written f header rest = (_, refl, (_, refl, (_, refl, refl)))
@@ -445,13 +417,13 @@ allowed_may f (command w ts) m = ap (λ (q : List Piece). may_stand f (first_wor
 abbrev pub Way : Form → Sentence → List Lexeme → List Lexeme → Type 0
 Way f x ws rest = (p : PartText) × (sentence_of p ≡ x) × (ws ≡ text_lexemes f p rest)
 
-command-way : (f : Form) (w : CommandWord) (vs : Args (command_row w).parts) (ws rest : List Lexeme)
+command-way : (f : Form) (w : CommandWord) (vs : Meanings (command_row w).parts) (ws rest : List Lexeme)
     → AreWritten (sentence_text f (a_command (made_of (command_row w) vs))) ws rest → Way f (a_command (made_of (command_row w) vs)) ws rest
 command-way f w vs ws rest h =
     let r = written-row (command_row w) (command_text (made_of (command_row w) vs)) vs ws rest (command-text w vs) h in
     (command w r.0, ap a_command (meaning-made (command_row w) r.0 ∙ ap (made_of (command_row w)) r.1), r.2)
 
-item-way : (f : Form) (w : ItemWord) (vs : Args (item_row w).parts) (ws rest : List Lexeme)
+item-way : (f : Form) (w : ItemWord) (vs : Meanings (item_row w).parts) (ws rest : List Lexeme)
     → AreWritten (sentence_text f (a_command (item_command (made_of (item_row w) vs)))) ws rest → Way f (a_command (item_command (made_of (item_row w) vs))) ws rest
 item-way f w vs ws rest h =
     let r = written-row (item_row w) (item_text (made_of (item_row w) vs)) vs ws rest (item-text w vs) h in

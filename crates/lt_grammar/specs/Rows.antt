@@ -92,6 +92,36 @@ abbrev pub given_all : {C : Type 0} → (ps : List Part) → FromAll ps C → Te
 given_all [] c ts = c
 given_all (p ∷ ps) f ts = given_all ps (given p f ts.0) ts.1
 
+-- what a part stands for, however it is written
+abbrev pub Meaning : Part → Type 0
+Meaning Label = Chars
+Meaning Number = ℕ
+Meaning Variable = Chars
+Meaning Parameters = List Chars
+Meaning AType = TypeTree
+Meaning AStatement = TermTree
+Meaning ATerm = TermTree
+Meaning (Exactly k) = Unit {0}
+
+abbrev pub Meanings : List Part → Type 0
+Meanings [] = Unit {0}
+Meanings (p ∷ ps) = Meaning p × Meanings ps
+
+-- what a function of it gives
+abbrev pub given_meaning : {C : Type 0} → (p : Part) → From p C → Meaning p → C
+given_meaning Label f n = f n
+given_meaning Number f k = f k
+given_meaning Variable f a = f a
+given_meaning Parameters f names = f names
+given_meaning AType f ty = f ty
+given_meaning AStatement f t = f t
+given_meaning ATerm f t = f t
+given_meaning (Exactly k) c u = c
+
+abbrev pub given_meanings : {C : Type 0} → (ps : List Part) → FromAll ps C → Meanings ps → C
+given_meanings [] c vs = c
+given_meanings (p ∷ ps) f vs = given_meanings ps (given_meaning p f vs.0) vs.1
+
 -- A row: what is made of the parts' meanings, in their order.
 pub record Row (C : Type 0) : Type 0 where
   pub word : Chars

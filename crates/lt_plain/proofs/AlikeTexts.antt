@@ -20,7 +20,8 @@ use Rattle.lt_grammar.specs.declared.words.Head.TheVariants as begins
 use Rattle.lt_grammar.specs.Table.{rule_row}
 use Rattle.lt_grammar.specs.Words.{find_word, rule_of, head_word, heads}
 use Rattle.lt_grammar.proofs.Distinct.{rule_found}
-use Rattle.lt_grammar.proofs.RowPieces.{Args, row_pieces, made_of, RowOfRule, rule-row, rule-text}
+use Rattle.lt_grammar.specs.Rows.{Meanings}
+use Rattle.lt_grammar.proofs.RowPieces.{row_pieces, made_of, RowOfRule, rule-row, rule-text}
 
 -- lines that differ in binder names alone
 abbrev pub AreAlikeLines : List (Rule TermTree) → List (Rule TermTree) → Type 0
@@ -57,7 +58,7 @@ type-same t u e = cc e
 
 -- ---- lines
 
-row-alike : (w : RuleWord) (vs us : Args (rule_row w).parts) (ps qs : List Piece)
+row-alike : (w : RuleWord) (vs us : Meanings (rule_row w).parts) (ps qs : List Piece)
     → AreAlike (row_pieces (rule_row w) vs ++ ps) (row_pieces (rule_row w) us ++ qs)
     → AreAlphaEqualLines (made_of (rule_row w) vs) (made_of (rule_row w) us) × AreAlike ps qs
 row-alike Assume vs us ps qs h = ((refl, (h.1.0, tt)), h.1.1)
@@ -85,7 +86,7 @@ row-alike Select vs us ps qs h = ((refl, (h.1.0, tt)), h.1.1)
 row-alike Ccontr vs us ps qs h = ((refl, (h.1.0, tt)), h.1.1)
 row-alike Thm vs us ps qs h = (((λ z. by_thm (name-same vs.0 us.0 h.1.0 z)), tt), h.1.1)
 
-rows-alike : (w v : RuleWord) (vs : Args (rule_row w).parts) (us : Args (rule_row v).parts)
+rows-alike : (w v : RuleWord) (vs : Meanings (rule_row w).parts) (us : Meanings (rule_row v).parts)
     (ps qs : List Piece)
     → AreAlike (row_pieces (rule_row w) vs ++ ps) (row_pieces (rule_row v) us ++ qs)
     → AreAlphaEqualLines (made_of (rule_row w) vs) (made_of (rule_row v) us) × AreAlike ps qs
@@ -94,7 +95,7 @@ rows-alike w v vs us ps qs h =
     let some : Some w ≡ Some v = sym (rule_found w) ∙ ap rule_of word ∙ rule_found v in
     let same : w ≡ v = cc some in
     subst
-    (λ (x : RuleWord). (us : Args (rule_row x).parts) → AreAlike (row_pieces (rule_row w) vs ++ ps) (row_pieces (rule_row x) us ++ qs)
+    (λ (x : RuleWord). (us : Meanings (rule_row x).parts) → AreAlike (row_pieces (rule_row w) vs ++ ps) (row_pieces (rule_row x) us ++ qs)
     → AreAlphaEqualLines (made_of (rule_row w) vs) (made_of (rule_row x) us) × AreAlike ps qs)
     same (λ us h. row-alike w vs us ps qs h) us h
 
