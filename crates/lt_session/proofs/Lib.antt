@@ -1,0 +1,8 @@
+-- What the prover doesn't find alone.
+pub mod Takings
+pub mod Totals
+pub mod OnTheWay
+pub mod Steppings
+pub mod Showings
+pub mod Fronts
+pub mod Runnings

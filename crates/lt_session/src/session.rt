@@ -1,0 +1,148 @@
+//! A session, and the commands that it takes.
+ghost use Rattle.std.specs.Prelude.{◌≡◌, [], None, IfOk};
+ghost use Rattle.lt_definitions.specs.Theory.{IsPlainTheory};
+ghost use Rattle.lt_texts.specs.Commands.{item_command, law_command};
+ghost use Rattle.lt_hol.specs.Items.{item_of};
+ghost use Rattle.lt_commands.specs.Views.{command_of};
+ghost use Rattle.lt_extend.specs.Theories.{items_of};
+ghost use Rattle.lt_session.specs.Taking.{Takes, of_law};
+
+use lt_commands::{Command, Refusal, Refused};
+use lt_extend::Theory;
+use lt_hol::{Item, Items, Memory, Name};
+use lt_laws::{LawFault, Laws};
+use lt_plain::{add_item, item_or_command, line_of, of_fault};
+use lt_shared::SharedStore;
+use std::alloc::Global;
+use std::marker::Model;
+
+/// What a theory text's commands have declared, stated and registered so far, and how many visits a
+/// search may make. Contracts see the items, the registered laws and the limit.
+#[derive(Drop)]
+pub struct Session {
+    theory: Theory<SharedStore>,
+    laws: Laws,
+    limit: u64,
+}
+
+impl Model for Session {
+    ghost use Rattle.lt_extend.specs.Theories.{IsInStep};
+    ghost use Rattle.lt_session.specs.Sessions.{Holding};
+
+    ghost Value = { Holding };
+
+    ghost use Rattle.std.specs.Coded.{codes};
+    ghost use Rattle.lt_types.specs.Codes.{coded_type};
+    ghost use Rattle.lt_terms.specs.Codes.{coded_term};
+
+    ghost coded = { Prim.hlevel (codes, coded_type, coded_term) };
+
+    ghost view = { λ s. record { items = s.theory.items; laws = s.laws; limit = s.limit } };
+
+    ghost invariant = { λ s. IsInStep s.theory };
+}
+
+impl Session {
+    /// The session in which nothing is declared, stated or registered.
+    pub fn new(alloc: Global, limit: u64) -> Result<Session, Memory>
+        ensures items { IfOk result (λ s. s.items ≡ []) }
+        ensures laws { IfOk result (λ s. s.laws ≡ []) }
+        ensures limit { IfOk result (λ s. s.limit ≡ limit) }
+    {
+        let store = SharedStore::new(alloc);
+        let theory = Theory::new(alloc, store)?;
+        let laws = Laws::new(alloc)?;
+        Ok(Session {
+            theory,
+            laws,
+            limit,
+        })
+    }
+
+    /// Takes a command: adds its items, and registers what it registers. A command that is refused
+    /// leaves the session as it was.
+    ///
+    /// `NotBuilt` where the command isn't built yet; else the command's first refusal, with the line
+    /// of its lemma in which it stands.
+    pub fn take(&mut self, alloc: Global, command: Command) -> Result<(), Refused>
+        ensures { Takes self.old (command_of command) self.new result }
+    {
+        match item_or_command(command) {
+            Ok(item) => self.take_item(alloc, item),
+            Err(Command::Law(law, label)) => self.take_law(alloc, &law, label),
+            Err(_) => Err(refused(Refusal::NotBuilt)),
+        }
+    }
+
+    /// Adds an item.
+    fn take_item(&mut self, alloc: Global, item: Item) -> Result<(), Refused>
+        ensures { Takes self.old (item_command (item_of item)) self.new result }
+    {
+        match add_item(alloc, &mut self.theory, item) {
+            Ok(()) => Ok(()),
+            Err(fault) => {
+                let line = line_of(&fault);
+                Err(Refused {
+                    refusal: of_fault(fault),
+                    line,
+                })
+            }
+        }
+    }
+
+    /// Registers a law under the label of a statement.
+    fn take_law(&mut self, alloc: Global, law: &Name, label: Name) -> Result<(), Refused>
+        ensures { Takes self.old (law_command law.now label) self.new result }
+    {
+        let Some(statement) = self.theory.statement(&label) else {
+            return Err(refused(Refusal::UnknownLabel(label)));
+        };
+        match self.laws.register_law(alloc, law, label, statement) {
+            Ok(()) => Ok(()),
+            Err(fault) => Err(refused(of_law_fault(fault))),
+        }
+    }
+
+    /// The items so far.
+    pub fn items(&self) -> &Items
+        ensures items { result.now ≡ self.now.items }
+        ensures valid { IsPlainTheory (items_of self.now.items) }
+    {
+        self.theory.items()
+    }
+
+    /// Gives up the session, and answers its items.
+    pub fn into_items(self) -> Items
+        ensures items { result ≡ self.items }
+        ensures valid { IsPlainTheory (items_of result) }
+    {
+        let Session {
+            theory,
+            laws: _,
+            limit: _,
+        } = self;
+        theory.into_items()
+    }
+}
+
+/// Why a law isn't registered, as a refusal.
+fn of_law_fault(fault: LawFault) -> Refusal
+    ensures { result ≡ of_law fault }
+{
+    match fault {
+        LawFault::UnknownLaw(law) => Refusal::UnknownLaw(law),
+        LawFault::LawDiffers(law) => Refusal::LawDiffers(law),
+        LawFault::MissingLaw(law) => Refusal::MissingLaw(law),
+        LawFault::Memory => Refusal::Memory,
+    }
+}
+
+/// A refusal that stands in no line of a lemma.
+fn refused(refusal: Refusal) -> Refused
+    ensures { result ≡ record { refusal = refusal; line = None } }
+{
+    Refused {
+        refusal,
+        line: None,
+    }
+}
