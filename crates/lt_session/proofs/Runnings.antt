@@ -1,5 +1,5 @@
 -- A walk that writes, on its way: its begin, its next command, and each way in which it stops.
-use Rattle.std.proofs.Common.{◌≡◌, ◌≢◌, ◌⊎◌, inl, inr, ℕ, List, [], ◌∷◌, ◌++◌, length, map, drop, Bool, true, false, Option, Some, None, Result, Ok, Err, refl, sym, ◌∙◌, ap, subst, append_assoc, append-nil, codes}
+use Rattle.std.proofs.Common.{◌≡◌, ◌≢◌, ◌⊎◌, inl, inr, ℕ, ◌+◌, ◌≤◌, List, [], ◌∷◌, ◌++◌, length, map, drop, Bool, true, false, Option, Some, None, Result, Ok, Err, refl, sym, ◌∙◌, ap, subst, append_assoc, append-nil, length-append, arith, codes}
 use Rattle.std.specs.Prelude.{encode_utf8_all, OnOk, OnErr}
 use Rattle.std.specs.List.{flat_map}
 use Rattle.std.proofs.lemmas.Str.{encodes-append}
@@ -25,6 +25,7 @@ use Rattle.lt_transport_definitions.specs.TheoryWalks.{items_of_blocks}
 use Rattle.lt_transport_definitions.specs.Reports.{written_of, report_of}
 use Rattle.lt_session.specs.declared.running.Stop.{Stop}
 use Rattle.lt_session.specs.declared.running.Stop.TheVariants as stops
+use Rattle.lt_session.specs.declared.session.Block.{Block}
 use Rattle.lt_session.specs.Sessions.{Holding, session_of, typedefs_of}
 use Rattle.lt_session.specs.Walks.{RunRefusal, built_commands}
 use Rattle.lt_session.specs.Stepping.{TellsEnd, RefusesHeader, StopsAt, IsNext}
@@ -117,20 +118,43 @@ blocks-more : (old new : Holding) (added : List ItemData) (blocks : List (List I
 blocks-more old new added blocks e is =
     items-more old new added e ∙ (λ i. is i ++ one-block (items_of added) (~ i)) ∙ sym (blocks-both blocks (items_of added ∷ []))
 
-comes-next : (limit : ℕ) (text : List ℕ) (old new : Holding) (at at' : Left) (blocks : List (List Item)) → ComesTo limit text blocks (session_of old) at → (n : IsNext at old at' new)
-    → ComesTo limit text (blocks ++ items_of n.taken.added ∷ []) (session_of new) at'
-comes-next limit text old new at at' blocks h n =
+comes-next : (limit : ℕ) (text : List ℕ) (old new : Holding) (at at' : Left) (block : Block) (blocks : List (List Item)) → ComesTo limit text blocks (session_of old) at
+    → (n : IsNext at old at' new block) → ComesTo limit text (blocks ++ items_of n.taken.added ∷ []) (session_of new) at'
+comes-next limit text old new at at' block blocks h n =
     goes_on limit text blocks (session_of old) (session_of new) at n.command (items_of n.taken.added) n.from n.lines n.to at' h n.next (n.taken.command, n.taken.gives)
 
-pub way_goes_on : (limit : ℕ) (summary : Bool) (text : List ℕ) (old new : Holding) (at at' : Left) (a b c : Option (List ℕ)) → IsOnWay limit summary text old at a b → (n : IsNext at old at' new)
-    → Grew b c (written_items summary (items_of n.taken.added)) → IsOnWay limit summary text new at' a c
-way_goes_on limit summary text old new at at' a b c h n grew = record {
+-- a taken block's items are the session's from its number on
+block-items : (old new : Holding) (block : Block) (added : List ItemData) → block.from ≡ length old.items → new.items ≡ old.items ++ added → drop block.from new.items ≡ added
+block-items old new block added f e = (λ i. drop (f i) (e i)) ∙ behind old.items
+  where
+    behind : (xs : List ItemData) → drop (length xs) (xs ++ added) ≡ added
+    behind [] = refl
+    behind (x ∷ xs) = behind xs
+
+-- the number isn't beyond the session's items
+pub block_within : (at at' : Left) (old new : Holding) (block : Block) → IsNext at old at' new block → block.from ≤ length new.items
+block_within at at' old new block n =
+    let e : length new.items ≡ length old.items + length n.taken.added = ap (λ (xs : List ItemData). length xs) n.taken.items ∙ length-append old.items n.taken.added in
+    let f : block.from ≡ length old.items = n.taken.from in
+    omega arith
+
+-- what is written behind what was written
+written-next : (summary : Bool) (at at' : Left) (old new : Holding) (block : Block) → IsNext at old at' new block
+    → written_so_far summary (items_of new.items) ≡ written_so_far summary (items_of old.items) ++ written_items summary (items_of (drop block.from new.items))
+written-next summary at at' old new block n =
+    ap (written_so_far summary) (items-more old new n.taken.added n.taken.items)
+    ∙ so-far-more summary (items_of old.items) (items_of n.taken.added)
+    ∙ sym (ap (λ (xs : List ItemData). written_so_far summary (items_of old.items) ++ written_items summary (items_of xs)) (block-items old new block n.taken.added n.taken.from n.taken.items))
+
+pub way_goes_on : (limit : ℕ) (summary : Bool) (text : List ℕ) (old new : Holding) (at at' : Left) (block : Block) (a b c : Option (List ℕ)) → IsOnWay limit summary text old at a b
+    → IsNext at old at' new block → Grew b c (written_items summary (items_of (drop block.from new.items))) → IsOnWay limit summary text new at' a c
+way_goes_on limit summary text old new at at' block a b c h n grew = record {
   same = n.taken.limit ∙ h.same;
   blocks = h.blocks ++ items_of n.taken.added ∷ [];
-  comes = comes-next limit text old new at at' h.blocks h.comes n;
+  comes = comes-next limit text old new at at' block h.blocks h.comes n;
   items = blocks-more old new n.taken.added h.blocks n.taken.items h.items;
-  grew = subst (λ (z : List ℕ). Grew a c z) (sym (ap (written_so_far summary) (items-more old new n.taken.added n.taken.items) ∙ so-far-more summary (items_of old.items) (items_of n.taken.added)))
-      (Grew-append a b c (written_so_far summary (items_of old.items)) (written_items summary (items_of n.taken.added)) h.grew grew);
+  grew = subst (λ (z : List ℕ). Grew a c z) (sym (written-next summary at at' old new block n))
+      (Grew-append a b c (written_so_far summary (items_of old.items)) (written_items summary (items_of (drop block.from new.items))) h.grew grew);
 }
 
 cut : (limit : ℕ) (summary : Bool) (text : List ℕ) (items : List Item) (blocks : List (List Item)) (s : Session) (at : Left) (a b : Option (List ℕ)) → ComesTo limit text blocks s at
@@ -139,20 +163,28 @@ unfolding IsCut
 cut limit summary text items blocks s at a b h is front =
     let w = has_end limit text blocks s at h in
     let grew = front-so-far summary items (items_of_blocks w.0) w.1 a b w.3 front in
-    (blocks, w.0, w.1, w.2, is, subst (λ (z : List Item). GrewByFront a b (written_of summary z w.1)) (ap (λ (z : List Item). z ++ items_of_blocks w.0) is ∙ sym (blocks-both blocks w.0)) grew)
+    (
+      blocks,
+      w.0,
+      w.1,
+      w.2,
+      is,
+      subst (λ (z : List Item). GrewByFront a b (written_of summary z w.1)) (ap (λ (z : List Item). z ++ items_of_blocks w.0) is ∙ sym (blocks-both blocks w.0)) grew,
+      inl front,
+    )
 
 pub way_cut : (limit : ℕ) (summary : Bool) (text : List ℕ) (h : Holding) (at : Left) (a b : Option (List ℕ)) → IsOnWay limit summary text h at a b → IsCut limit summary text (items_of h.items) a b
 way_cut limit summary text h at a b w =
     cut limit summary text (items_of h.items) w.blocks (session_of h) at a b w.comes w.items (front_all a b (written_so_far summary (items_of h.items)) w.grew)
 
 -- cut in a block's items
-pub way_cut_in_items : (limit : ℕ) (summary : Bool) (text : List ℕ) (old new : Holding) (at at' : Left) (a b c : Option (List ℕ)) → IsOnWay limit summary text old at a b → (n : IsNext at old at' new)
-    → GrewByFront b c (written_items summary (items_of n.taken.added)) → IsCut limit summary text (items_of new.items) a c
-way_cut_in_items limit summary text old new at at' a b c h n front =
-    cut limit summary text (items_of new.items) (h.blocks ++ items_of n.taken.added ∷ []) (session_of new) at' a c (comes-next limit text old new at at' h.blocks h.comes n)
+pub way_cut_in_block : (limit : ℕ) (summary : Bool) (text : List ℕ) (old new : Holding) (at at' : Left) (block : Block) (a b c : Option (List ℕ)) → IsOnWay limit summary text old at a b
+    → IsNext at old at' new block → GrewByFront b c (written_items summary (items_of (drop block.from new.items))) → IsCut limit summary text (items_of new.items) a c
+way_cut_in_block limit summary text old new at at' block a b c h n front =
+    cut limit summary text (items_of new.items) (h.blocks ++ items_of n.taken.added ∷ []) (session_of new) at' a c (comes-next limit text old new at at' block h.blocks h.comes n)
     (blocks-more old new n.taken.added h.blocks n.taken.items h.items)
-    (subst (λ (z : List ℕ). GrewByFront a c z) (sym (ap (written_so_far summary) (items-more old new n.taken.added n.taken.items) ∙ so-far-more summary (items_of old.items) (items_of n.taken.added)))
-    (front_behind a b c (written_so_far summary (items_of old.items)) (written_items summary (items_of n.taken.added)) h.grew front))
+    (subst (λ (z : List ℕ). GrewByFront a c z) (sym (written-next summary at at' old new block n))
+    (front_behind a b c (written_so_far summary (items_of old.items)) (written_items summary (items_of (drop block.from new.items))) h.grew front))
 
 -- cut before the first item
 pub first_cut : (summary : Bool) (text : List ℕ) (h : Holding) (at : Left) (a b : Option (List ℕ)) → h.items ≡ [] → h.laws ≡ [] → Stands (left_of text) (header_text theory_text) at
@@ -191,6 +223,7 @@ way_cut_at_end limit summary text h at a b c w k front = (
   subst (λ (z : List Item). GrewByFront a c (written_of summary z accepted)) (w.items ∙ sym (ap items_of_blocks (append-nil w.blocks)))
       (subst (λ (z : List ℕ). GrewByFront a c z) (sym (written-end summary (items_of h.items) accepted tt))
       (front_behind a b c (written_so_far summary (items_of h.items)) (encode_utf8_all (written_last summary (items_of h.items))) w.grew front)),
+  inr (refl, refl),
 )
 
 -- ---- what is refused
@@ -253,7 +286,7 @@ header-end limit false text a p (inr (e, h, is)) = inr (wrong_header e, ([], hea
 none-cut : (limit : ℕ) (summary : Bool) (text : List ℕ) (a : Option (List ℕ)) → IsCut limit summary text [] a a
 unfolding IsCut
 none-cut limit summary text a =
-    let w = each_text (built_commands limit) (built_total limit) text in ([], w.0, w.1, w.2, refl, front_none a a (written_of summary (items_of_blocks w.0) w.1) (Grew-none a))
+    let w = each_text (built_commands limit) (built_total limit) text in ([], w.0, w.1, w.2, refl, front_none a a (written_of summary (items_of_blocks w.0) w.1) (Grew-none a), inl (front_none a a (written_so_far summary []) (Grew-none a)))
 
 -- or at its header
 pub header_stops : (limit : ℕ) (summary : Bool) (text : List ℕ) (items : List ItemData) (a : Option (List ℕ)) (p : Placed) (stop : Stop) → items ≡ [] → RefusesHeader (left_of text) p → IsStop p stop
@@ -276,11 +309,3 @@ pub way_finishes : (limit : ℕ) (summary : Bool) (text : List ℕ) (h : Holding
 way_finishes limit summary text h at a b c (Ok u) w k clear grew front = way_ends limit summary text h at a b c w k grew
 way_finishes limit summary text h at a b c (Err stop) w k clear grew front =
     cut_stops limit summary text (items_of h.items) a c stop clear (way_cut_at_end limit summary text h at a b c w k front)
-
--- the items behind the first ones
-pub added_behind : (old new : Holding) (added : List ItemData) → new.items ≡ old.items ++ added → drop (length old.items) new.items ≡ added
-added_behind old new added e = ap (drop (length old.items)) e ∙ behind old.items
-  where
-    behind : (xs : List ItemData) → drop (length xs) (xs ++ added) ≡ added
-    behind [] = refl
-    behind (x ∷ xs) = behind xs

@@ -22,6 +22,7 @@ use Rattle.lt_syntax.proofs.Ascii.{chars-ascii, ascii}
 use Rattle.lt_walks.specs.Walks.{End, unread, refused, place_of}
 use Rattle.lt_plain.specs.Placing.{IsPlacedError}
 use Rattle.lt_transport_definitions.specs.Sessions.{Session}
+use Rattle.lt_session.specs.declared.session.Block.{Block}
 use Rattle.lt_session.specs.Sessions.{Holding, session_of}
 use Rattle.lt_session.specs.Taking.{TellsRefusal, IsNotBuilt, IsRefused, Refuses, IsTaken}
 use Rattle.lt_session.specs.Walks.{by_table, not_built, line_in}
@@ -76,9 +77,9 @@ refuses_command s c from lines x p (inr (inr h)) same at =
     tells k y = TellsRefusal k.first y
 
 -- the next command was taken
-pub steps_on : (s : Left) (d : Spanned) (old : Holding) (s' : Left) (new : Holding) → NextPlaced theory_text s (command_of d.command) d.from d.lines d.to s'
-    → IsTaken old (command_of d.command) new → IsNext s old s' new
-steps_on s d old s' new n t = record { command = command_of d.command; from = d.from; lines = d.lines; to = d.to; next = n; taken = t }
+pub steps_on : (s : Left) (d : Spanned) (old : Holding) (s' : Left) (new : Holding) (block : Block) → NextPlaced theory_text s (command_of d.command) d.from d.lines d.to s'
+    → IsTaken old (command_of d.command) new block → IsNext s old s' new block
+steps_on s d old s' new block n t = record { command = command_of d.command; from = d.from; lines = d.lines; to = d.to; next = n; taken = t }
 
 stops_by : (s : Session) (at : Left) (d : Spanned) (s' : Left) (p : Placed) → NextPlaced theory_text at (command_of d.command) d.from d.lines d.to s'
     → RefusesCommand s (command_of d.command) d.from d.lines p → StopsAt s at p

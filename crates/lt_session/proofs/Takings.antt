@@ -1,7 +1,7 @@
 -- Commands that are taken, and those that are refused.
 use Rattle.std.specs.Prelude.{if◌then◌else◌, is_some, is_none, option_map, fold, not}
 use Rattle.std.specs.List.{list_any}
-use Rattle.std.proofs.Common.{◌≡◌, ◌≢◌, ◌⊎◌, inl, inr, ℕ, List, [], ◌∷◌, ◌++◌, map, Bool, true, false, Option, Some, None, Result, Ok, Err, refl, sym, ◌∙◌, ap, subst, codes, ◌||◌, append-nil}
+use Rattle.std.proofs.Common.{◌≡◌, ◌≢◌, ◌⊎◌, inl, inr, ℕ, List, [], ◌∷◌, ◌++◌, length, map, Bool, true, false, Option, Some, None, Result, Ok, Err, refl, sym, ◌∙◌, ap, subst, codes, ◌||◌, append-nil}
 use Rattle.std.proofs.lemmas.List.{map-append}
 use Rattle.std.proofs.lemmas.List.Sums.{fold-append}
 use Rattle.lt_definitions.specs.Types.{Chars, same_name, found}
@@ -41,6 +41,7 @@ use Rattle.lt_transport_definitions.specs.Answers.{first_wrong, wrong_where}
 use Rattle.lt_transport_definitions.specs.Rows.{Row, BlockOutcome, ◌⊳◌, with_value, adds, item_test}
 use Rattle.lt_transport_definitions.specs.Table.{registers, row_of}
 use Rattle.lt_transport_definitions.specs.TheoryWalks.{line_of}
+use Rattle.lt_session.specs.declared.session.Block.{Block as Answered}
 use Rattle.lt_session.specs.Sessions.{Holding, session_of, typedefs_of}
 use Rattle.lt_session.specs.Taking.{is_built, of_law, TellsRefusal, IsNotBuilt, IsRefused, Refuses, IsTaken}
 
@@ -68,10 +69,11 @@ behind-block old new item h l m =
     sym (λ i. record (session_of old) { context = e1 i; typedefs = e2 i; laws = l i; limit = m i })
 
 -- An item that is valid over those before it was added.
-pub takes-item : (old new : Holding) (item : Item) → refusal (context_behind old.items) (item_of item) ≡ None → new.items ≡ old.items ++ item ∷ [] → new.laws ≡ old.laws → new.limit ≡ old.limit
-    → IsTaken old (item_command (item_of item)) new
-takes-item old new item e h l m = record {
+pub takes-item : (old new : Holding) (item : Item) (block : Answered) → block.from ≡ length old.items → refusal (context_behind old.items) (item_of item) ≡ None → new.items ≡ old.items ++ item ∷ [] → new.laws ≡ old.laws → new.limit ≡ old.limit
+    → IsTaken old (item_command (item_of item)) new block
+takes-item old new item block from e h l m = record {
   command = refl;
+  from = from;
   added = item ∷ [];
   items = h;
   gives = subst (λ (s : Session). Gives (session_of old) (item_command (item_of item)) (item_of item ∷ []) s) (behind-block old new item h l m) (gives-item (session_of old) (item_of item) e);
@@ -152,10 +154,11 @@ behind-law old new w l h k m =
     sym (λ i. record (session_of old) { context = context_behind (h i); typedefs = typedefs_of (items_of (h i)); laws = k i; limit = m i })
 
 -- A law was registered.
-pub takes-law : (old new : Holding) (w l : Chars) (t : TermTree) → found l (context_behind old.items).statements ≡ Some t → law_fault w t ≡ None → new.items ≡ old.items
-    → new.laws ≡ with_law w l old.laws → new.limit ≡ old.limit → IsTaken old (law_command w l) new
-takes-law old new w l t e f h k m = record {
+pub takes-law : (old new : Holding) (w l : Chars) (t : TermTree) (block : Answered) → block.from ≡ length old.items → found l (context_behind old.items).statements ≡ Some t → law_fault w t ≡ None → new.items ≡ old.items
+    → new.laws ≡ with_law w l old.laws → new.limit ≡ old.limit → IsTaken old (law_command w l) new block
+takes-law old new w l t block from e f h k m = record {
   command = refl;
+  from = from;
   added = [];
   items = h ∙ sym (append-nil old.items);
   gives = subst (λ (s : Session). Gives (session_of old) (law_command w l) [] s) (behind-law old new w l h k m) (gives-law (session_of old) w l t e f);

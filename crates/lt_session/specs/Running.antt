@@ -1,5 +1,5 @@
 -- What is written of the walk through a theory text, and what comes of the walk.
-use Rattle.std.specs.Prelude.{◌≡◌, ◌≢◌, ℕ, ◌≤◌, List, [], ◌++◌, Bool, true, false, Option, Result, Ok, Err, IsErrOf, codes, encode_utf8_all}
+use Rattle.std.specs.Prelude.{◌≡◌, ◌≢◌, ◌⊎◌, ℕ, ◌≤◌, List, [], ◌++◌, Bool, true, false, Option, Result, Ok, Err, IsErrOf, codes, encode_utf8_all}
 use Rattle.std.specs.List.{flat_map}
 use Rattle.lt_definitions.specs.Types.{Chars}
 use Rattle.lt_definitions.specs.Items.{Item}
@@ -63,13 +63,16 @@ IsEnd limit summary text items end before now = (blocks : List (List Item))
     × Grew before now (written_of summary items end)
 
 -- The items are those of the first blocks of the walk through the text, and the sink got a front of
--- what is written of it.
+-- what is written of it: no more than what is written of these items, unless they are all, and
+-- accepted.
 unfoldable pub IsCut : (limit : ℕ) (summary : Bool) → List ℕ → List Item → Option (List ℕ)
     → Option (List ℕ) → Type 0
 IsCut limit summary text items before now = (blocks more : List (List Item))
     × (end : End RunRefusal) × WalksText (built_commands limit) text (blocks ++ more) end
     × (items ≡ items_of_blocks blocks)
     × GrewByFront before now (written_of summary (items_of_blocks (blocks ++ more)) end)
+    × (GrewByFront before now (written_so_far summary items)
+    ⊎ ((more ≡ []) × (end ≡ accepted)))
 
 -- All is accepted, or something is refused, which is told, or the walk is cut short.
 abbrev pub IsRun : (limit : ℕ) (summary : Bool) → List ℕ → List Item → Option (List ℕ)

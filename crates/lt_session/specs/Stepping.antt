@@ -1,5 +1,5 @@
 -- One step of the walk through a theory text.
-use Rattle.std.specs.Prelude.{◌≡◌, ◌⊎◌, ℕ, List, codes, Bool, true, false, Result, Ok, Err}
+use Rattle.std.specs.Prelude.{◌≡◌, ◌⊎◌, ℕ, List, codes, Option, Some, None, Result, Ok, Err}
 use Rattle.lt_texts.specs.Texts.{Left}
 use Rattle.lt_texts.specs.Commands.{Command}
 use Rattle.lt_texts.specs.Forms.{theory_text}
@@ -14,6 +14,7 @@ use Rattle.lt_script.specs.declared.spanned.Spanned.{Spanned}
 use Rattle.lt_walks.specs.Walks.{End, accepted, too_long, wrong_header, unread, refused, EndsThere, place_of}
 use Rattle.lt_plain.specs.Telling.{as_placed}
 use Rattle.lt_transport_definitions.specs.Sessions.{Session}
+use Rattle.lt_session.specs.declared.session.Block.{Block}
 use Rattle.lt_session.specs.Sessions.{Holding, session_of}
 use Rattle.lt_session.specs.Taking.{TellsRefusal, IsTaken}
 use Rattle.lt_session.specs.Walks.{RunRefusal, by_table, not_built, RefusesBuilt, line_in, built_commands}
@@ -54,23 +55,23 @@ RefusesCommand s c from lines p = (p.refusal ≡ Memory)
     × (p.at ≡ place_of from lines (line_in r)))
 
 -- The next command of the text was taken, and this is left behind it.
-pub record IsNext (s : Left) (old : Holding) (s' : Left) (new : Holding) : Type 0 where
+pub record IsNext (s : Left) (old : Holding) (s' : Left) (new : Holding) (block : Block) : Type 0 where
   pub command : Command
   pub from : ℕ
   pub lines : List ℕ
   pub to : ℕ
   pub next : NextPlaced theory_text s command from lines to s'
-  pub taken : IsTaken old command new
+  pub taken : IsTaken old command new block
 
 -- What was read was taken, or wasn't, for the reason that is told with its place.
-abbrev pub TakesSpanned : Spanned → Holding → Holding → Result (Unit {0}) Placed → Type 0
-TakesSpanned d old new (Ok _) = IsTaken old (command_of d.command) new
+abbrev pub TakesSpanned : Spanned → Holding → Holding → Result Block Placed → Type 0
+TakesSpanned d old new (Ok block) = IsTaken old (command_of d.command) new block
 TakesSpanned d old new (Err p) =
     RefusesCommand (session_of old) (command_of d.command) d.from d.lines p × (new ≡ old)
 
 -- One more command of the text was taken, or the text is at its end, or the walk ends here
 -- otherwise.
-abbrev pub Steps : Left → Holding → Left → Holding → Result Bool Placed → Type 0
-Steps s old s' new (Ok true) = IsNext s old s' new
-Steps s old s' new (Ok false) = AtEnd theory_text s × (new ≡ old)
+abbrev pub Steps : Left → Holding → Left → Holding → Result (Option Block) Placed → Type 0
+Steps s old s' new (Ok (Some block)) = IsNext s old s' new block
+Steps s old s' new (Ok None) = AtEnd theory_text s × (new ≡ old)
 Steps s old s' new (Err p) = StopsAt (session_of old) s p × (new ≡ old)

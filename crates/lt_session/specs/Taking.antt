@@ -1,5 +1,5 @@
 -- What a session answers to a command.
-use Rattle.std.specs.Prelude.{◌≡◌, ◌⊎◌, List, ◌++◌, Bool, true, false, Option, None, Result, Ok, Err}
+use Rattle.std.specs.Prelude.{◌≡◌, ◌⊎◌, List, ◌++◌, length, Bool, true, false, Option, None, Result, Ok, Err}
 use Rattle.lt_texts.specs.Commands.{Command, item_command, law_command}
 use Rattle.lt_hol.specs.declared.item.Item.{Item}
 use Rattle.lt_extend.specs.Theories.{items_of}
@@ -14,6 +14,7 @@ use Rattle.lt_transport_definitions.specs.Sessions.{Session}
 use Rattle.lt_transport_definitions.specs.Commands.{CommandRefusal, as_item, in_words}
 use Rattle.lt_transport_definitions.specs.Blocks.{ComesOf, Gives}
 use Rattle.lt_transport_definitions.specs.TheoryWalks.{line_of}
+use Rattle.lt_session.specs.declared.session.Block.{Block}
 use Rattle.lt_session.specs.Sessions.{Holding, session_of}
 
 -- Which commands are built: those of items, and `law`.
@@ -52,15 +53,16 @@ pub record IsRefused (s : Session) (c : Command) (x : Refused) : Type 0 where
 abbrev pub Refuses : Session → Command → Refused → Type 0
 Refuses s c x = (x.refusal ≡ Memory) ⊎ (IsNotBuilt c x ⊎ IsRefused s c x)
 
--- The command's items were added, and the session is the one behind its block.
-pub record IsTaken (old : Holding) (c : Command) (new : Holding) : Type 0 where
+-- The block's items were added, and the session is the one behind the command's block.
+pub record IsTaken (old : Holding) (c : Command) (new : Holding) (block : Block) : Type 0 where
   pub command : is_built c ≡ true
+  pub from : block.from ≡ length old.items
   pub added : List Item
   pub items : new.items ≡ old.items ++ added
   pub gives : Gives (session_of old) c (items_of added) (session_of new)
   pub limit : new.limit ≡ old.limit
 
 -- The command was taken, or it wasn't, and then all is as before.
-abbrev pub Takes : Holding → Command → Holding → Result (Unit {0}) Refused → Type 0
-Takes old c new (Ok _) = IsTaken old c new
+abbrev pub Takes : Holding → Command → Holding → Result Block Refused → Type 0
+Takes old c new (Ok block) = IsTaken old c new block
 Takes old c new (Err x) = Refuses (session_of old) c x × (new ≡ old)

@@ -9,5 +9,5 @@ mod stepping;
 pub use counts::{Counts, count};
 pub use lt_commands::{Command, Placed, Refusal, Refused};
 pub use running::{Stop, run_text, stop_of, write_piece};
-pub use session::Session;
+pub use session::{Block, Session};
 pub use stepping::{next_command, open_theory};

@@ -1,5 +1,5 @@
 //! The walk through a theory text: its items are added and written one block after another.
-ghost use Rattle.std.specs.Prelude.{◌≡◌, [], drop, map, OnOk, OnErr, encode_utf8_all};
+ghost use Rattle.std.specs.Prelude.{◌≡◌, [], map, OnOk, OnErr, encode_utf8_all};
 ghost use Rattle.lt_hol.specs.Items.{item_of};
 ghost use Rattle.lt_io.specs.Written.{Grew, GrewByFront};
 ghost use Rattle.lt_extend.specs.Theories.{items_of};
@@ -59,13 +59,12 @@ pub fn run_text<O: Sink>(
         Err(stop) => return Err(stop),
     }
     'commands: loop {
-        let before = session.items().len();
-        match next_command(alloc, &mut script, session) {
-            Ok(true) => {}
-            Ok(false) => return finish(alloc, session.items().as_slice(), summary, out),
+        let block = match next_command(alloc, &mut script, session) {
+            Ok(Some(block)) => block,
+            Ok(None) => return finish(alloc, session.items().as_slice(), summary, out),
             Err(placed) => return Err(stop_of(placed)),
-        }
-        match write_from(alloc, session.items().as_slice(), before, summary, out) {
+        };
+        match write_block(alloc, session.block(block), summary, out) {
             Ok(()) => {}
             Err(stop) => return Err(stop),
         }
@@ -100,28 +99,25 @@ fn write_first<O: Sink>(summary: bool, out: &mut O) -> Result<(), Stop>
     write_piece(out, b"plain 1;\n")
 }
 
-/// Writes the items from a number on.
-fn write_from<O: Sink>(
+/// Writes the items of a block.
+fn write_block<O: Sink>(
     alloc: Global,
-    items: &[Item],
-    from: usize,
+    block: &[Item],
     summary: bool,
     out: &mut O,
 ) -> Result<(), Stop>
     ensures all { OnOk result (Grew (O.written out.old) (O.written out.new)
-        (written_items summary (map item_of (drop from items.now)))) }
+        (written_items summary (map item_of block.now))) }
     ensures front { OnErr result (GrewByFront (O.written out.old) (O.written out.new)
-        (written_items summary (map item_of (drop from items.now)))) }
+        (written_items summary (map item_of block.now))) }
     ensures written { IsNoRefusal result }
     ensures cause { CutByCause (O.faults out.old) (O.faults out.new) result }
 {
-    let mut at = from;
-    'items: while at < items.len() {
-        match write_one(alloc, &items[at], summary, out) {
+    for item in block {
+        match write_one(alloc, item, summary, out) {
             Ok(()) => {}
             Err(stop) => return Err(stop),
         }
-        at += 1;
     }
     Ok(())
 }

@@ -1,5 +1,5 @@
 //! A session, and the commands that it takes.
-ghost use Rattle.std.specs.Prelude.{◌≡◌, [], None, IfOk};
+ghost use Rattle.std.specs.Prelude.{◌≡◌, ◌≤◌, [], length, drop, None, IfOk};
 ghost use Rattle.lt_definitions.specs.Theory.{IsPlainTheory};
 ghost use Rattle.lt_texts.specs.Commands.{item_command, law_command};
 ghost use Rattle.lt_hol.specs.Items.{item_of};
@@ -15,6 +15,12 @@ use lt_plain::{add_item, item_or_command, line_of, of_fault};
 use lt_shared::SharedStore;
 use std::alloc::Global;
 use std::marker::Model;
+
+/// The block of a command: the session's items from this number on, as it stands behind the command.
+#[derive(Debug, Clone, Copy)]
+pub struct Block {
+    pub from: usize,
+}
 
 /// What a theory text's commands have declared, stated and registered so far, and how many visits a
 /// search may make. Contracts see the items, the registered laws and the limit.
@@ -59,12 +65,12 @@ impl Session {
         })
     }
 
-    /// Takes a command: adds its items, and registers what it registers. A command that is refused
-    /// leaves the session as it was.
+    /// Takes a command: adds the items of its block, registers what it registers, and answers the
+    /// block. A command that is refused leaves the session as it was.
     ///
     /// `NotBuilt` where the command isn't built yet; else the command's first refusal, with the line
     /// of its lemma in which it stands.
-    pub fn take(&mut self, alloc: Global, command: Command) -> Result<(), Refused>
+    pub fn step(&mut self, alloc: Global, command: Command) -> Result<Block, Refused>
         ensures { Takes self.old (command_of command) self.new result }
     {
         match item_or_command(command) {
@@ -75,11 +81,12 @@ impl Session {
     }
 
     /// Adds an item.
-    fn take_item(&mut self, alloc: Global, item: Item) -> Result<(), Refused>
+    fn take_item(&mut self, alloc: Global, item: Item) -> Result<Block, Refused>
         ensures { Takes self.old (item_command (item_of item)) self.new result }
     {
+        let block = self.next_block();
         match add_item(alloc, &mut self.theory, item) {
-            Ok(()) => Ok(()),
+            Ok(()) => Ok(block),
             Err(fault) => {
                 let line = line_of(&fault);
                 Err(Refused {
@@ -91,16 +98,34 @@ impl Session {
     }
 
     /// Registers a law under the label of a statement.
-    fn take_law(&mut self, alloc: Global, law: &Name, label: Name) -> Result<(), Refused>
+    fn take_law(&mut self, alloc: Global, law: &Name, label: Name) -> Result<Block, Refused>
         ensures { Takes self.old (law_command law.now label) self.new result }
     {
+        let block = self.next_block();
         let Some(statement) = self.theory.statement(&label) else {
             return Err(refused(Refusal::UnknownLabel(label)));
         };
         match self.laws.register_law(alloc, law, label, statement) {
-            Ok(()) => Ok(()),
+            Ok(()) => Ok(block),
             Err(fault) => Err(refused(of_law_fault(fault))),
         }
+    }
+
+    /// The block of the items that are yet to come.
+    fn next_block(&self) -> Block
+        ensures { result.from ≡ length self.now.items }
+    {
+        Block {
+            from: self.items().len(),
+        }
+    }
+
+    /// The items of a block.
+    pub fn block(&self, block: Block) -> &[Item]
+        requires { block.from ≤ length self.now.items }
+        ensures { result.now ≡ drop block.from self.now.items }
+    {
+        &self.items().as_slice()[block.from..]
     }
 
     /// The items so far.

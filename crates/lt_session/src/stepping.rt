@@ -1,12 +1,11 @@
 //! The walk through a theory text, command by command.
-ghost use Rattle.std.specs.Prelude.{◌≡◌, ◌<◌, length, IfOk, IfErr};
-ghost use Rattle.std.specs.Bool.{MatchBool};
+ghost use Rattle.std.specs.Prelude.{◌≡◌, ◌<◌, length, IfOk, IfErr, MatchOption};
 ghost use Rattle.lt_texts.specs.Forms.{theory_text, header_text};
 ghost use Rattle.lt_texts.specs.Texts.{left_of};
 ghost use Rattle.lt_texts.specs.WrongPlaces.{Stands};
 ghost use Rattle.lt_session.specs.Stepping.{IsTheory, RefusesHeader, Steps, TakesSpanned};
 
-use crate::session::Session;
+use crate::session::{Block, Session};
 use lt_commands::{Placed, Refused};
 use lt_plain::{of_read_error, place_in};
 use lt_script::{Script, Spanned};
@@ -29,20 +28,20 @@ pub fn open_theory<'a>(alloc: Global, text: &'a [u8]) -> Result<Script<'a>, Plac
     }
 }
 
-/// Takes the next command of a theory text, and says whether there was one.
+/// Takes the next command of a theory text, and answers its block, or None at the text's end.
 ///
-/// It answers what is wrong in the text before the command's end, or why the command isn't taken;
-/// then the session is as before.
+/// It refuses what is wrong in the text before the command's end, and then the command that the
+/// session doesn't take; the session is as before.
 pub fn next_command(
     alloc: Global,
     script: &mut Script<'_>,
     session: &mut Session,
-) -> Result<bool, Placed>
+) -> Result<Option<Block>, Placed>
     requires theory { IsTheory script.old }
     ensures steps { Steps script.old.left session.old script.new.left session.new result }
     ensures shorter { IfOk result
-        (λ more. MatchBool more (length script.new.left.ahead < length script.old.left.ahead)
-        (script.new ≡ script.old)) }
+        (λ next. MatchOption next (script.new ≡ script.old)
+        (λ block. length script.new.left.ahead < length script.old.left.ahead)) }
     ensures theory { IsTheory script.new }
 {
     let next = match script.parse_command(alloc) {
@@ -50,16 +49,16 @@ pub fn next_command(
         Err(error) => return Err(of_read_error(error)),
     };
     let Some(spanned) = next else {
-        return Ok(false);
+        return Ok(None);
     };
     match take_spanned(alloc, spanned, session) {
-        Ok(()) => Ok(true),
+        Ok(block) => Ok(Some(block)),
         Err(placed) => Err(placed),
     }
 }
 
 /// Takes what was read, or answers why it isn't taken, with the place.
-fn take_spanned(alloc: Global, spanned: Spanned, session: &mut Session) -> Result<(), Placed>
+fn take_spanned(alloc: Global, spanned: Spanned, session: &mut Session) -> Result<Block, Placed>
     ensures { TakesSpanned spanned session.old session.new result }
 {
     let Spanned {
@@ -68,8 +67,8 @@ fn take_spanned(alloc: Global, spanned: Spanned, session: &mut Session) -> Resul
         to: _,
         lines,
     } = spanned;
-    match session.take(alloc, command) {
-        Ok(()) => Ok(()),
+    match session.step(alloc, command) {
+        Ok(block) => Ok(block),
         Err(Refused { refusal, line }) => {
             let at = place_in(from, &lines, line);
             Err(Placed { refusal, at })

@@ -9,7 +9,7 @@ returns-in-Err-clause-steps c =
 
 pub returns-in-Ok-take_spanned-clause-steps : goal.returns-in-Ok-take_spanned-clause-steps
 returns-in-Ok-take_spanned-clause-steps c =
-    steps_on c.args.script.now.left c.in-Some.spanned c.args.session.now c.parse_command.new.self.left c.take_spanned.new.session
+    steps_on c.args.script.now.left c.in-Some.spanned c.args.session.now c.parse_command.new.self.left c.take_spanned.new.session c.in-Ok-take_spanned.block
     (next_theory c.args.script.now _ _ _ _ _ c.requires.theory (rw c.in-Some.is at c.in-Ok.ensures.command)) c.in-Ok-take_spanned.ensures
 
 pub returns-in-Err-take_spanned-clause-steps : goal.returns-in-Err-take_spanned-clause-steps
