@@ -5,4 +5,5 @@ pub mod OnTheWay
 pub mod Steppings
 pub mod Showings
 pub mod Fronts
+pub mod WrittenItems
 pub mod Runnings

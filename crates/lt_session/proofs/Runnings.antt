@@ -30,16 +30,13 @@ use Rattle.lt_session.specs.Sessions.{Holding, session_of, typedefs_of}
 use Rattle.lt_session.specs.Walks.{RunRefusal, built_commands}
 use Rattle.lt_session.specs.Stepping.{TellsEnd, RefusesHeader, StopsAt, IsNext}
 use Rattle.lt_session.specs.Running.{written_item, written_first, written_items, written_so_far, written_last, IsNoRefusal, IsStop, IsEnd, IsCut, IsRun}
+use Rattle.lt_session.proofs.WrittenItems.{items-both}
 use Rattle.lt_session.proofs.Fronts.{Grew-none, front_all, front_behind, front_longer, front_none}
 use Rattle.lt_walks.proofs.EachWalk.{each_text}
 use Rattle.lt_session.proofs.Totals.{built_total}
 use Rattle.lt_session.proofs.OnTheWay.{IsBehind, on-end, ComesTo, begun, goes_on, ends, header_ends, has_end}
 
 -- ---- what is written
-
-items-both : (summary : Bool) (items more : List Item) → written_items summary (items ++ more) ≡ written_items summary items ++ written_items summary more
-items-both summary items more =
-    ap encode_utf8_all (flat_map-append (written_item summary) items more) ∙ encodes-append (flat_map (written_item summary) items) (flat_map (written_item summary) more)
 
 so-far-more : (summary : Bool) (items more : List Item) → written_so_far summary (items ++ more) ≡ written_so_far summary items ++ written_items summary more
 so-far-more summary items more =

@@ -33,7 +33,7 @@ use Rattle.lt_laws.specs.declared.law_fault.LawFault.{LawFault}
 use Rattle.lt_laws.specs.declared.law_fault.LawFault.TheVariants as faults
 use Rattle.lt_laws.specs.declared.law_fault.LawFault.TheVariants.{UnknownLaw, LawDiffers}
 use Rattle.lt_laws.specs.Registering.{with_law, differs_from, law_fault, Tests}
-use Rattle.lt_transport_definitions.specs.Sessions.{Session, Typedef}
+use Rattle.lt_transport_definitions.specs.Sessions.{Session, Typedef as TypedefEntry}
 use Rattle.lt_transport_definitions.specs.Commands.{CommandRefusal, as_item, because, this_item, Block, law_registered, session_behind, unless_there, with_typedef_of, with_registration}
 use Rattle.lt_transport_definitions.specs.LawTexts.{law_statement}
 use Rattle.lt_transport_definitions.specs.Blocks.{Unless, OfValue, ComesOfRow, ComesOf, Gives}
@@ -43,11 +43,11 @@ use Rattle.lt_transport_definitions.specs.Table.{registers, row_of}
 use Rattle.lt_transport_definitions.specs.TheoryWalks.{line_of}
 use Rattle.lt_session.specs.declared.session.Block.{Block as Answered}
 use Rattle.lt_session.specs.Sessions.{Holding, session_of, typedefs_of}
-use Rattle.lt_session.specs.Taking.{is_built, of_law, TellsRefusal, IsNotBuilt, IsRefused, Refuses, IsTaken}
+use Rattle.lt_session.specs.Taking.{is_built, of_law, TellsRefusal, IsNotBuilt, IsRefused, Refuses, IsTaken, Takes}
 
 -- ---- items
 
-pub item-block : theory.Item → Block
+abbrev pub item-block : theory.Item → Block
 item-block i = record { additions = this_item i ∷ []; registrations = [] }
 
 comes-item : (s : Session) (i : theory.Item) (o : BlockOutcome) (r : Option refusals.Refusal) → refusal s.context i ≡ r
@@ -59,7 +59,7 @@ gives-item s i e = (item-block i, comes-item s i _ None e refl, (refl, tt), (e, 
 
 typedefs-more : (items : List Item) (item : Item) → typedefs_of (items_of (items ++ item ∷ [])) ≡ with_typedef_of (item_of item) (typedefs_of (items_of items))
 typedefs-more items item =
-    ap typedefs_of (map-append item_of items (item ∷ [])) ∙ fold-append (λ (ts : List Typedef) (i : theory.Item). with_typedef_of i ts) [] (items_of items) (item_of item ∷ [])
+    ap typedefs_of (map-append item_of items (item ∷ [])) ∙ fold-append (λ (ts : List TypedefEntry) (i : theory.Item). with_typedef_of i ts) [] (items_of items) (item_of item ∷ [])
 
 behind-block : (old new : Holding) (item : Item) → new.items ≡ old.items ++ item ∷ [] → new.laws ≡ old.laws → new.limit ≡ old.limit
     → session_behind (session_of old) (item-block (item_of item)) ≡ session_of new
@@ -112,13 +112,13 @@ refuses-item s item fault x h same line = by (told (refusal (context_behind s.it
 
 -- ---- laws
 
-law-row : Session → Chars → Chars → Option TermTree → Row
+abbrev law-row : Session → Chars → Chars → Option TermTree → Row
 law-row s w l t = with_value t (as_item (unknown_statement l)) λ u.
     with_value (law_statement w) (because "UnknownLaw" (w ∷ [])) λ law.
     wrong_where (not (is_alpha u law)) (because "LawDiffers" (w ∷ [])) ⊳
     registers (law_registered w l)
 
-label-wrong : Chars → Option TermTree → Option CommandRefusal
+abbrev label-wrong : Chars → Option TermTree → Option CommandRefusal
 label-wrong l t = item_test (wrong_where (is_none t) (unknown_statement l))
 
 -- what comes of `law`, by the statement of its label
@@ -126,11 +126,11 @@ comes-law : (s : Session) (w l : Chars) (t : Option TermTree) (o : BlockOutcome)
     → Unless (first_wrong (label-wrong l t ∷ None ∷ None ∷ [])) (ComesOfRow s (law-row s w l t)) o → ComesOf s (law_command w l) o
 comes-law s w l t o e h = subst (λ (z : Option TermTree). Unless (first_wrong (label-wrong l z ∷ None ∷ None ∷ [])) (ComesOfRow s (law-row s w l z)) o) (sym e) h
 
-pub law-block : Chars → Chars → Block
+abbrev pub law-block : Chars → Chars → Block
 law-block w l = record { additions = []; registrations = law_registered w l ∷ [] }
 
 -- what comes of the statement, by that of the law
-OfLaw : Session → Chars → Chars → TermTree → Option TermTree → BlockOutcome → Type 0
+abbrev OfLaw : Session → Chars → Chars → TermTree → Option TermTree → BlockOutcome → Type 0
 OfLaw s w l t law o = OfValue law (because "UnknownLaw" (w ∷ [])) (λ u p. Unless (wrong_where (not (is_alpha t u)) (because "LawDiffers" (w ∷ []))) (ComesOfRow s (registers (law_registered w l))) p) o
 
 accepts-by : (s : Session) (w l : Chars) (b : Bool) → (if b then None else Some (LawDiffers w)) ≡ None
@@ -166,7 +166,7 @@ takes-law old new w l t block from e f h k m = record {
 }
 
 -- the refusal of a law, as one of the table
-pub law-refusal : LawFault → CommandRefusal
+abbrev pub law-refusal : LawFault → CommandRefusal
 law-refusal (faults.UnknownLaw x) = because "UnknownLaw" (x ∷ [])
 law-refusal (faults.LawDiffers x) = because "LawDiffers" (x ∷ [])
 law-refusal (faults.MissingLaw x) = because "MissingLaw" (x ∷ [])
@@ -217,6 +217,52 @@ pub refuses-label : (s : Holding) (w l : Chars) → found l (context_behind s.it
     → Refuses (session_of s) (law_command w l) (record { refusal = UnknownLabel l; line = None })
 refuses-label s w l e =
     inr (inr (record { command = refl; first = as_item (unknown_statement l); comes = refused-label (session_of s) w l e; tells = refl; line = refl }))
+
+-- ---- what a step answers, by the session before it is opened
+
+same-holding : (a b : Holding) → a.items ≡ b.items → a.laws ≡ b.laws → a.limit ≡ b.limit → a ≡ b
+same-holding a b e l m = λ i. record { items = e i; laws = l i; limit = m i }
+
+pub item_taken : (old here new : Holding) (item : Item) (block : Answered) → here ≡ old → block.from ≡ length old.items → refusal (context_behind here.items) (item_of item) ≡ None
+    → new.items ≡ here.items ++ item ∷ [] → new.laws ≡ here.laws → new.limit ≡ here.limit → IsTaken old (item_command (item_of item)) new block
+item_taken old here new item block is from e h l m =
+    subst (λ (s : Holding). block.from ≡ length s.items → IsTaken s (item_command (item_of item)) new block) is (λ f. takes-item here new item block f e h l m) from
+
+pub item_refused : (old here new : Holding) (item : Item) (fault : ItemFault) (x : Refused) → here ≡ old → conditions.Refuses (refusal (context_behind here.items) (item_of item)) fault
+    → new.items ≡ here.items → new.laws ≡ here.laws → new.limit ≡ here.limit → x.refusal ≡ flat fault → x.line ≡ line_in fault
+    → Refuses (session_of old) (item_command (item_of item)) x × (new ≡ old)
+item_refused old here new item fault x is h e l m same line = (
+  subst (λ (s : Holding). Refuses (session_of s) (item_command (item_of item)) x) is (refuses-item here item fault x h same line),
+  same-holding new here e l m ∙ is,
+)
+
+pub law_taken : (old here new : Holding) (w l : Chars) (t : TermTree) (block : Answered) → here ≡ old → block.from ≡ length old.items → found l (context_behind here.items).statements ≡ Some t
+    → law_fault w t ≡ None → new.items ≡ here.items → new.laws ≡ with_law w l here.laws → new.limit ≡ here.limit → IsTaken old (law_command w l) new block
+law_taken old here new w l t block is from e f h k m =
+    subst (λ (s : Holding). block.from ≡ length s.items → IsTaken s (law_command w l) new block) is (λ b. takes-law here new w l t block b e f h k m) from
+
+pub law_refused : (old here new : Holding) (w l : Chars) (t : TermTree) (f : LawFault) (x : Refused) → here ≡ old → found l (context_behind here.items).statements ≡ Some t → Tests w t (Err f)
+    → new.items ≡ here.items → new.laws ≡ here.laws → new.limit ≡ here.limit → x ≡ record { refusal = of_law f; line = None }
+    → Refuses (session_of old) (law_command w l) x × (new ≡ old)
+law_refused old here new w l t f x is e h i k m same = (
+  subst (λ (s : Holding). Refuses (session_of s) (law_command w l) x) is
+      (subst (λ (y : Refused). Refuses (session_of here) (law_command w l) y) (sym same) (refuses-law here w l t f e h)),
+  same-holding new here i k m ∙ is,
+)
+
+pub label_refused : (old here : Holding) (w l : Chars) (x : Refused) → here ≡ old → found l (context_behind here.items).statements ≡ None → x ≡ record { refusal = UnknownLabel l; line = None }
+    → Refuses (session_of old) (law_command w l) x × (old ≡ old)
+label_refused old here w l x is e same = (
+  subst (λ (s : Holding). Refuses (session_of s) (law_command w l) x) is
+      (subst (λ (y : Refused). Refuses (session_of here) (law_command w l) y) (sym same) (refuses-label here w l e)),
+  refl,
+)
+
+pub takes_ok : (old new : Holding) (c : Command) (block : Answered) (r : Result Answered Refused) → r ≡ Ok block → IsTaken old c new block → Takes old c new r
+takes_ok old new c block r is h = subst (λ (z : Result Answered Refused). Takes old c new z) (sym is) h
+
+pub takes_err : (old new : Holding) (c : Command) (x : Refused) (r : Result Answered Refused) → r ≡ Err x → Refuses (session_of old) c x × (new ≡ old) → Takes old c new r
+takes_err old new c x r is h = subst (λ (z : Result Answered Refused). Takes old c new z) (sym is) h
 
 -- ---- other commands
 

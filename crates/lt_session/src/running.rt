@@ -1,5 +1,5 @@
 //! The walk through a theory text: its items are added and written one block after another.
-ghost use Rattle.std.specs.Prelude.{◌≡◌, [], map, OnOk, OnErr, encode_utf8_all};
+ghost use Rattle.std.specs.Prelude.{◌≡◌, [], map, OnOk, OnErr, IfOk, string_bytes, encode_utf8_all};
 ghost use Rattle.lt_hol.specs.Items.{item_of};
 ghost use Rattle.lt_io.specs.Written.{Grew, GrewByFront};
 ghost use Rattle.lt_extend.specs.Theories.{items_of};
@@ -131,12 +131,19 @@ fn write_one<O: Sink>(alloc: Global, item: &Item, summary: bool, out: &mut O) ->
     ensures written { IsNoRefusal result }
     ensures cause { CutByCause (O.faults out.old) (O.faults out.new) result }
 {
-    let text = if summary {
-        summary_line(alloc, item)?
-    } else {
-        write_item(alloc, item)?
-    };
+    let text = item_text(alloc, item, summary)?;
     write_piece(out, text.as_bytes())
+}
+
+/// The text of an item: its summary line, or its command.
+fn item_text(alloc: Global, item: &Item, summary: bool) -> Result<String, Memory>
+    ensures { IfOk result (λ text. string_bytes text
+        ≡ encode_utf8_all (written_item summary (item_of item.now))) }
+{
+    if summary {
+        return Ok(summary_line(alloc, item)?);
+    }
+    Ok(write_item(alloc, item)?)
 }
 
 /// Writes the line of counts, where a summary is asked for.
