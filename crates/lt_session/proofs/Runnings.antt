@@ -44,7 +44,7 @@ so-far-more summary items more =
     ∙ sym (append_assoc (encode_utf8_all (written_first summary)) (written_items summary items) (written_items summary more))
 
 -- what stands behind the items, by how the walk ends
-last-of : Bool → List Item → End RunRefusal → Chars
+abbrev last-of : Bool → List Item → End RunRefusal → Chars
 last-of summary items accepted = written_last summary items
 last-of summary items end = []
 
@@ -113,7 +113,7 @@ items-more old new added e = ap items_of e ∙ map-append item_of old.items adde
 blocks-more : (old new : Holding) (added : List ItemData) (blocks : List (List Item)) → new.items ≡ old.items ++ added → items_of old.items ≡ items_of_blocks blocks
     → items_of new.items ≡ items_of_blocks (blocks ++ items_of added ∷ [])
 blocks-more old new added blocks e is =
-    items-more old new added e ∙ (λ i. is i ++ one-block (items_of added) (~ i)) ∙ sym (blocks-both blocks (items_of added ∷ []))
+    items-more old new added e ∙ (λ i. is i ++ sym (one-block (items_of added)) i) ∙ sym (blocks-both blocks (items_of added ∷ []))
 
 comes-next : (limit : ℕ) (text : List ℕ) (old new : Holding) (at at' : Left) (block : Block) (blocks : List (List Item)) → ComesTo limit text blocks (session_of old) at
     → (n : IsNext at old at' new block) → ComesTo limit text (blocks ++ items_of n.taken.added ∷ []) (session_of new) at'
@@ -128,13 +128,6 @@ block-items old new block added f e = (λ i. drop (f i) (e i)) ∙ behind old.it
     behind [] = refl
     behind (x ∷ xs) = behind xs
 
--- the number isn't beyond the session's items
-pub block_within : (at at' : Left) (old new : Holding) (block : Block) → IsNext at old at' new block → block.from ≤ length new.items
-block_within at at' old new block n =
-    let e : length new.items ≡ length old.items + length n.taken.added = ap (λ (xs : List ItemData). length xs) n.taken.items ∙ length-append old.items n.taken.added in
-    let f : block.from ≡ length old.items = n.taken.from in
-    omega arith
-
 -- what is written behind what was written
 written-next : (summary : Bool) (at at' : Left) (old new : Holding) (block : Block) → IsNext at old at' new block
     → written_so_far summary (items_of new.items) ≡ written_so_far summary (items_of old.items) ++ written_items summary (items_of (drop block.from new.items))
@@ -143,7 +136,7 @@ written-next summary at at' old new block n =
     ∙ so-far-more summary (items_of old.items) (items_of n.taken.added)
     ∙ sym (ap (λ (xs : List ItemData). written_so_far summary (items_of old.items) ++ written_items summary (items_of xs)) (block-items old new block n.taken.added n.taken.from n.taken.items))
 
-pub way_goes_on : (limit : ℕ) (summary : Bool) (text : List ℕ) (old new : Holding) (at at' : Left) (block : Block) (a b c : Option (List ℕ)) → IsOnWay limit summary text old at a b
+way_goes_on : (limit : ℕ) (summary : Bool) (text : List ℕ) (old new : Holding) (at at' : Left) (block : Block) (a b c : Option (List ℕ)) → IsOnWay limit summary text old at a b
     → IsNext at old at' new block → Grew b c (written_items summary (items_of (drop block.from new.items))) → IsOnWay limit summary text new at' a c
 way_goes_on limit summary text old new at at' block a b c h n grew = record {
   same = n.taken.limit ∙ h.same;
@@ -170,12 +163,12 @@ cut limit summary text items blocks s at a b h is front =
       inl front,
     )
 
-pub way_cut : (limit : ℕ) (summary : Bool) (text : List ℕ) (h : Holding) (at : Left) (a b : Option (List ℕ)) → IsOnWay limit summary text h at a b → IsCut limit summary text (items_of h.items) a b
+way_cut : (limit : ℕ) (summary : Bool) (text : List ℕ) (h : Holding) (at : Left) (a b : Option (List ℕ)) → IsOnWay limit summary text h at a b → IsCut limit summary text (items_of h.items) a b
 way_cut limit summary text h at a b w =
     cut limit summary text (items_of h.items) w.blocks (session_of h) at a b w.comes w.items (front_all a b (written_so_far summary (items_of h.items)) w.grew)
 
 -- cut in a block's items
-pub way_cut_in_block : (limit : ℕ) (summary : Bool) (text : List ℕ) (old new : Holding) (at at' : Left) (block : Block) (a b c : Option (List ℕ)) → IsOnWay limit summary text old at a b
+way_cut_in_block : (limit : ℕ) (summary : Bool) (text : List ℕ) (old new : Holding) (at at' : Left) (block : Block) (a b c : Option (List ℕ)) → IsOnWay limit summary text old at a b
     → IsNext at old at' new block → GrewByFront b c (written_items summary (items_of (drop block.from new.items))) → IsCut limit summary text (items_of new.items) a c
 way_cut_in_block limit summary text old new at at' block a b c h n front =
     cut limit summary text (items_of new.items) (h.blocks ++ items_of n.taken.added ∷ []) (session_of new) at' a c (comes-next limit text old new at at' block h.blocks h.comes n)
@@ -197,7 +190,7 @@ ended : (limit : ℕ) (summary : Bool) (text : List ℕ) (h : Holding) (at : Lef
     → WalksText (built_commands limit) text w.blocks accepted
 ended limit summary text h at a b w k = ends limit text w.blocks (session_of h) at accepted w.comes (inl (k, refl))
 
-pub way_ends : (limit : ℕ) (summary : Bool) (text : List ℕ) (h : Holding) (at : Left) (a b c : Option (List ℕ)) → IsOnWay limit summary text h at a b → AtEnd theory_text at
+way_ends : (limit : ℕ) (summary : Bool) (text : List ℕ) (h : Holding) (at : Left) (a b c : Option (List ℕ)) → IsOnWay limit summary text h at a b → AtEnd theory_text at
     → Grew b c (encode_utf8_all (written_last summary (items_of h.items))) → IsEnd limit summary text (items_of h.items) accepted a c
 unfolding IsEnd
 way_ends limit summary text h at a b c w k grew = (
@@ -208,7 +201,7 @@ way_ends limit summary text h at a b c w k grew = (
       (Grew-append a b c (written_so_far summary (items_of h.items)) (encode_utf8_all (written_last summary (items_of h.items))) w.grew grew),
 )
 
-pub way_cut_at_end : (limit : ℕ) (summary : Bool) (text : List ℕ) (h : Holding) (at : Left) (a b c : Option (List ℕ)) → IsOnWay limit summary text h at a b → AtEnd theory_text at
+way_cut_at_end : (limit : ℕ) (summary : Bool) (text : List ℕ) (h : Holding) (at : Left) (a b c : Option (List ℕ)) → IsOnWay limit summary text h at a b → AtEnd theory_text at
     → GrewByFront b c (encode_utf8_all (written_last summary (items_of h.items))) → IsCut limit summary text (items_of h.items) a c
 unfolding IsCut
 way_cut_at_end limit summary text h at a b c w k front = (
@@ -217,7 +210,7 @@ way_cut_at_end limit summary text h at a b c w k front = (
   accepted,
   subst (λ (z : List (List Item)). WalksText (built_commands limit) text z accepted) (sym (append-nil w.blocks)) (ended limit summary text h at a b w k),
   w.items,
-  subst (λ (z : List Item). GrewByFront a c (written_of summary z accepted)) (w.items ∙ sym (ap items_of_blocks (append-nil w.blocks)))
+  subst (λ (z : List Item). GrewByFront a c (written_of {R = RunRefusal} summary z accepted)) (w.items ∙ sym (ap items_of_blocks (append-nil w.blocks)))
       (subst (λ (z : List ℕ). GrewByFront a c z) (sym (written-end summary (items_of h.items) accepted tt))
       (front_behind a b c (written_so_far summary (items_of h.items)) (encode_utf8_all (written_last summary (items_of h.items))) w.grew front)),
   inr (refl, refl),
@@ -253,12 +246,12 @@ stopped limit summary text h at a b p w (inr (end, stop, tells)) =
       tells,
     )
   where
-    refused-last : (e : End RunRefusal) → (e ≡ accepted → ⊥) → written_so_far summary (items_of h.items) ++ encode_utf8_all (last-of summary (items_of h.items) e) ≡ written_so_far summary (items_of h.items)
-    refused-last accepted no = absurd (no refl)
-    refused-last too_long no = append-nil (written_so_far summary (items_of h.items))
-    refused-last (wrong_header e) no = append-nil (written_so_far summary (items_of h.items))
-    refused-last (unread e) no = append-nil (written_so_far summary (items_of h.items))
-    refused-last (refused r place) no = append-nil (written_so_far summary (items_of h.items))
+    refused-last : (e : End RunRefusal) → e ≢ accepted → written_so_far summary (items_of h.items) ++ encode_utf8_all (last-of summary (items_of h.items) e) ≡ written_so_far summary (items_of h.items)
+    refused-last accepted other = absurd (other refl)
+    refused-last too_long other = append-nil (written_so_far summary (items_of h.items))
+    refused-last (wrong_header e) other = append-nil (written_so_far summary (items_of h.items))
+    refused-last (unread e) other = append-nil (written_so_far summary (items_of h.items))
+    refused-last (refused r place) other = append-nil (written_so_far summary (items_of h.items))
 
     told-not-accepted : (e : End RunRefusal) (q : Placed) → TellsEnd e q → e ≡ accepted → ⊥
     told-not-accepted accepted q k = absurd k
@@ -268,7 +261,7 @@ stopped limit summary text h at a b p w (inr (end, stop, tells)) =
     told-not-accepted (refused r place) q k = λ same. cc same
 
 -- the walk stops at what the next step tells
-pub way_stops : (limit : ℕ) (summary : Bool) (text : List ℕ) (h : Holding) (at : Left) (a b : Option (List ℕ)) (p : Placed) (stop : Stop) → IsOnWay limit summary text h at a b
+way_stops : (limit : ℕ) (summary : Bool) (text : List ℕ) (h : Holding) (at : Left) (a b : Option (List ℕ)) (p : Placed) (stop : Stop) → IsOnWay limit summary text h at a b
     → StopsAt (session_of h) at p → IsStop p stop → IsRun limit summary text (items_of h.items) a b (Err stop)
 way_stops limit summary text h at a b p stop w k is =
     told-end limit summary text (items_of h.items) a b p (way_cut limit summary text h at a b w) (stopped limit summary text h at a b p w k) stop is
@@ -300,9 +293,43 @@ cut_stops limit summary text items a b (stops.Refused p) h k = absurd h
 cut_stops limit summary text items a b stops.Fault h k = k
 cut_stops limit summary text items a b stops.Memory h k = k
 
-pub way_finishes : (limit : ℕ) (summary : Bool) (text : List ℕ) (h : Holding) (at : Left) (a b c : Option (List ℕ)) (r : Result (Unit {0}) Stop) → IsOnWay limit summary text h at a b
+way_finishes : (limit : ℕ) (summary : Bool) (text : List ℕ) (h : Holding) (at : Left) (a b c : Option (List ℕ)) (r : Result (Unit {0}) Stop) → IsOnWay limit summary text h at a b
     → AtEnd theory_text at → IsNoRefusal r → OnOk r (Grew b c (encode_utf8_all (written_last summary (items_of h.items))))
     → OnErr r (GrewByFront b c (encode_utf8_all (written_last summary (items_of h.items)))) → IsRun limit summary text (items_of h.items) a c r
 way_finishes limit summary text h at a b c (Ok u) w k clear grew front = way_ends limit summary text h at a b c w k grew
 way_finishes limit summary text h at a b c (Err stop) w k clear grew front =
     cut_stops limit summary text (items_of h.items) a c stop clear (way_cut_at_end limit summary text h at a b c w k front)
+
+-- ---- what the next step answers
+
+-- the text is at its end
+pub step_finishes : (limit : ℕ) (summary : Bool) (text : List ℕ) (old new : Holding) (at : Left) (items : List ItemData) (a b c : Option (List ℕ)) (r : Result (Unit {0}) Stop)
+    → IsOnWay limit summary text old at a b → AtEnd theory_text at × (new ≡ old) → items ≡ new.items → IsNoRefusal r → OnOk r (Grew b c (encode_utf8_all (written_last summary (items_of items))))
+    → OnErr r (GrewByFront b c (encode_utf8_all (written_last summary (items_of items)))) → IsRun limit summary text (items_of new.items) a c r
+step_finishes limit summary text old new at items a b c r w (k, same) is clear grew front =
+    let e : items ≡ old.items = is ∙ ap (λ (h : Holding). h.items) same in
+    subst (λ (h : Holding). IsRun limit summary text (items_of h.items) a c r) (sym same)
+    (way_finishes limit summary text old at a b c r w k clear
+    (subst (λ (xs : List ItemData). OnOk r (Grew b c (encode_utf8_all (written_last summary (items_of xs))))) e grew)
+    (subst (λ (xs : List ItemData). OnErr r (GrewByFront b c (encode_utf8_all (written_last summary (items_of xs))))) e front))
+
+-- nothing more was taken
+pub step_stops : (limit : ℕ) (summary : Bool) (text : List ℕ) (old new : Holding) (at : Left) (a b : Option (List ℕ)) (p : Placed) (stop : Stop) → IsOnWay limit summary text old at a b
+    → StopsAt (session_of old) at p × (new ≡ old) → IsStop p stop → IsRun limit summary text (items_of new.items) a b (Err stop)
+step_stops limit summary text old new at a b p stop w (k, same) is =
+    subst (λ (h : Holding). IsRun limit summary text (items_of h.items) a b (Err stop)) (sym same) (way_stops limit summary text old at a b p stop w k is)
+
+-- a command was taken, and its block written
+pub step_goes_on : (limit : ℕ) (summary : Bool) (text : List ℕ) (old new : Holding) (at at' : Left) (block : Block) (items : List ItemData) (a b c : Option (List ℕ))
+    → IsOnWay limit summary text old at a b → IsNext at old at' new block → items ≡ drop block.from new.items → Grew b c (written_items summary (items_of items))
+    → IsOnWay limit summary text new at' a c
+step_goes_on limit summary text old new at at' block items a b c w n is grew =
+    way_goes_on limit summary text old new at at' block a b c w n (subst (λ (xs : List ItemData). Grew b c (written_items summary (items_of xs))) is grew)
+
+-- or cut in its block
+pub step_cut : (limit : ℕ) (summary : Bool) (text : List ℕ) (old new : Holding) (at at' : Left) (block : Block) (items : List ItemData) (a b c : Option (List ℕ)) (stop : Stop)
+    → IsOnWay limit summary text old at a b → IsNext at old at' new block → items ≡ drop block.from new.items → IsNoRefusal (Err stop) → GrewByFront b c (written_items summary (items_of items))
+    → IsRun limit summary text (items_of new.items) a c (Err stop)
+step_cut limit summary text old new at at' block items a b c stop w n is clear front =
+    cut_stops limit summary text (items_of new.items) a c stop clear
+    (way_cut_in_block limit summary text old new at at' block a b c w n (subst (λ (xs : List ItemData). GrewByFront b c (written_items summary (items_of xs))) is front))

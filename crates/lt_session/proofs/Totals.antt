@@ -14,19 +14,19 @@ use Rattle.lt_transport_definitions.specs.Commands.{as_item, session_behind}
 use Rattle.lt_session.specs.Walks.{RunRefusal, by_table, not_built, GivesBuilt, RefusesBuilt, built_commands}
 use Rattle.lt_session.proofs.Takings.{item-block, gives-item, refused-item, law-block, gives-law, law-refusal, refused-law, refused-label}
 
-Outcome : Session → Command → Type 0
+abbrev Outcome : Session → Command → Type 0
 Outcome s c = ((items : List theory.Item) × (later : Session) × GivesBuilt s c items later) ⊎ ((r : RunRefusal) × RefusesBuilt s c r)
 
 of-item : (s : Session) (i : theory.Item) (o : Option refusals.Refusal) → refusal s.context i ≡ o → Outcome s (item_command i)
-of-item s i None e = inl (i ∷ [], session_behind s (item-block i), refl, gives-item s i e)
-of-item s i (Some r) e = inr (by_table (as_item r), refl, refused-item s i r e)
+of-item s i None e = inl (i ∷ [], session_behind s (item-block i), (refl, gives-item s i e))
+of-item s i (Some r) e = inr (by_table (as_item r), (refl, refused-item s i r e))
 
 by-law : (s : Session) (w l : Chars) (t : TermTree) (f : Option LawFault) → found l s.context.statements ≡ Some t → law_fault w t ≡ f → Outcome s (law_command w l)
-by-law s w l t None e h = inl ([], session_behind s (law-block w l), refl, gives-law s w l t e h)
-by-law s w l t (Some f) e h = inr (by_table (law-refusal f), refl, refused-law s w l t f e h)
+by-law s w l t None e h = inl ([], session_behind s (law-block w l), (refl, gives-law s w l t e h))
+by-law s w l t (Some f) e h = inr (by_table (law-refusal f), (refl, refused-law s w l t f e h))
 
 of-law : (s : Session) (w l : Chars) (t : Option TermTree) → found l s.context.statements ≡ t → Outcome s (law_command w l)
-of-law s w l None e = inr (by_table (as_item (unknown_statement l)), refl, refused-label s w l e)
+of-law s w l None e = inr (by_table (as_item (unknown_statement l)), (refl, refused-label s w l e))
 of-law s w l (Some t) e = by-law s w l t (law_fault w t) e refl
 
 outcome : (s : Session) (c : Command) → Outcome s c
