@@ -1,5 +1,5 @@
 -- A walk through a theory text on its way: its begin, its next command, its end, and that it has one.
-use Rattle.std.proofs.Common.{◌≡◌, ℕ, List, [], ◌∷◌, ◌++◌, refl, sym, subst, append_assoc, append-nil, inl, inr}
+use Rattle.std.proofs.Common.{ℕ, List, [], ◌∷◌, ◌++◌, refl, sym, subst, append_assoc, append-nil, inl, inr}
 use Rattle.lt_definitions.specs.Items.{Item}
 use Rattle.lt_texts.specs.Texts.{Left, left_of}
 use Rattle.lt_texts.specs.Commands.{Command}

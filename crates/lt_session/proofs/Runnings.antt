@@ -1,5 +1,5 @@
 -- A walk that writes, on its way: its begin, its next command, and each way in which it stops.
-use Rattle.std.proofs.Common.{◌≡◌, ◌≢◌, ◌⊎◌, inl, inr, ℕ, ◌+◌, ◌≤◌, List, [], ◌∷◌, ◌++◌, length, map, drop, Bool, true, false, Option, Some, None, Result, Ok, Err, refl, sym, ◌∙◌, ap, subst, append_assoc, append-nil, length-append, arith, codes}
+use Rattle.std.proofs.Common.{◌≡◌, ◌≢◌, ◌⊎◌, inl, inr, ℕ, List, [], ◌∷◌, ◌++◌, length, drop, Bool, true, false, Option, Result, Ok, Err, refl, sym, ◌∙◌, ap, subst, append_assoc, append-nil, codes}
 use Rattle.std.specs.Prelude.{encode_utf8_all, OnOk, OnErr}
 use Rattle.std.specs.List.{flat_map}
 use Rattle.std.proofs.lemmas.Str.{encodes-append}
@@ -7,7 +7,7 @@ use Rattle.std.proofs.lemmas.Grind.{flat_map-append}
 use Rattle.std.proofs.lemmas.List.{map-append}
 use Rattle.lt_definitions.specs.Types.{Chars}
 use Rattle.lt_definitions.specs.Items.{Item}
-use Rattle.lt_definitions.specs.Printing.{summary_line, summary_lines, printed_item, count_line, report}
+use Rattle.lt_definitions.specs.Printing.{summary_lines, printed_item, count_line, report}
 use Rattle.lt_hol.specs.declared.item.Item.{Item as ItemData}
 use Rattle.lt_hol.specs.Items.{item_of}
 use Rattle.lt_texts.specs.Texts.{Left, left_of}
@@ -22,14 +22,14 @@ use Rattle.lt_commands.specs.declared.refusal.Refusal.TheVariants.{Memory as NoM
 use Rattle.lt_commands.specs.declared.refusal.Placed.{Placed}
 use Rattle.lt_transport_definitions.specs.Sessions.{Session, new_session}
 use Rattle.lt_transport_definitions.specs.TheoryWalks.{items_of_blocks}
-use Rattle.lt_transport_definitions.specs.Reports.{written_of, report_of}
+use Rattle.lt_transport_definitions.specs.Reports.{written_of}
 use Rattle.lt_session.specs.declared.running.Stop.{Stop}
 use Rattle.lt_session.specs.declared.running.Stop.TheVariants as stops
 use Rattle.lt_session.specs.declared.session.Block.{Block}
 use Rattle.lt_session.specs.Sessions.{Holding, session_of, typedefs_of}
 use Rattle.lt_session.specs.Walks.{RunRefusal, built_commands}
 use Rattle.lt_session.specs.Stepping.{TellsEnd, RefusesHeader, StopsAt, IsNext}
-use Rattle.lt_session.specs.Running.{written_item, written_first, written_items, written_so_far, written_last, IsNoRefusal, IsStop, IsEnd, IsCut, IsRun}
+use Rattle.lt_session.specs.Running.{written_first, written_items, written_so_far, written_last, IsNoRefusal, IsStop, IsEnd, IsCut, IsRun}
 use Rattle.lt_session.proofs.WrittenItems.{items-both}
 use Rattle.lt_session.proofs.Fronts.{Grew-none, front_all, front_behind, front_longer, front_none}
 use Rattle.lt_walks.proofs.EachWalk.{each_text}
@@ -152,8 +152,7 @@ cut : (limit : ℕ) (summary : Bool) (text : List ℕ) (items : List Item) (bloc
 unfolding IsCut
 cut limit summary text items blocks s at a b h is front =
     let w = has_end limit text blocks s at h in
-    let grew = front-so-far summary items (items_of_blocks w.0) w.1 a b w.3 front in
-    (
+    let grew = front-so-far summary items (items_of_blocks w.0) w.1 a b w.3 front in (
       blocks,
       w.0,
       w.1,

@@ -1,6 +1,5 @@
 -- What is printed of an answered refusal is what is printed of what it tells.
-use Rattle.std.proofs.Common.{◌≡◌, ap, sym}
-use Rattle.lt_definitions.specs.Types.{Chars}
+use Rattle.std.proofs.Common.{◌≡◌, ap}
 use Rattle.lt_definitions.specs.Printing.{words}
 use Rattle.lt_commands.specs.declared.refusal.Refusal.{Refusal}
 use Rattle.lt_plain.specs.Showing.{shown_words}

@@ -1,13 +1,12 @@
 -- Steps of the walk through a theory text.
-use Rattle.std.proofs.Common.{◌≡◌, ◌⊎◌, inl, inr, ℕ, List, [], ◌∷◌, ◌++◌, map, Bool, true, false, Option, Some, None, Result, Ok, Err, refl, sym, ◌∙◌, ap, subst, chars, codes}
+use Rattle.std.proofs.Common.{◌≡◌, inl, inr, ℕ, List, Option, None, Err, refl, sym, ◌∙◌, ap, subst, chars, codes}
 use Rattle.lt_texts.specs.Texts.{Left, left_of}
 use Rattle.lt_texts.specs.Commands.{Command}
 use Rattle.lt_texts.specs.Forms.{Form, theory_text, header_text, command_words}
-use Rattle.lt_texts.specs.WrongPlaces.{Wrong, Stands, AtEnd, HeaderFailsAt}
+use Rattle.lt_texts.specs.WrongPlaces.{Stands, AtEnd}
 use Rattle.lt_texts.specs.CommandPlaces.{NextPlaced}
 use Rattle.lt_commands.specs.Views.{command_of}
 use Rattle.lt_commands.specs.declared.refusal.Refusal.{Refusal}
-use Rattle.lt_commands.specs.declared.refusal.Refusal.TheVariants.{Memory}
 use Rattle.lt_commands.specs.declared.refusal.Refused.{Refused}
 use Rattle.lt_commands.specs.declared.refusal.Placed.{Placed}
 use Rattle.lt_script.specs.Scripts.{Begun, begun_of, form_in, headed}
@@ -19,14 +18,14 @@ use Rattle.lt_script.specs.declared.read_error.ReadError.{ReadError}
 use Rattle.lt_script.specs.declared.read_error.ReadError.TheVariants as errors
 use Rattle.lt_script.specs.declared.spanned.Spanned.{Spanned}
 use Rattle.lt_syntax.proofs.Ascii.{chars-ascii, ascii}
-use Rattle.lt_walks.specs.Walks.{End, unread, refused, place_of}
+use Rattle.lt_walks.specs.Walks.{unread, refused, place_of}
 use Rattle.lt_plain.specs.Placing.{IsPlacedError}
 use Rattle.lt_transport_definitions.specs.Sessions.{Session}
 use Rattle.lt_session.specs.declared.session.Block.{Block}
 use Rattle.lt_session.specs.Sessions.{Holding, session_of}
-use Rattle.lt_session.specs.Taking.{TellsRefusal, IsNotBuilt, IsRefused, Refuses, IsTaken}
+use Rattle.lt_session.specs.Taking.{TellsRefusal, IsRefused, Refuses, IsTaken}
 use Rattle.lt_session.specs.Walks.{by_table, not_built, line_in}
-use Rattle.lt_session.specs.Stepping.{IsTheory, RefusesHeader, StopsAt, RefusesCommand, IsNext, TakesSpanned, Steps}
+use Rattle.lt_session.specs.Stepping.{IsTheory, RefusesHeader, StopsAt, RefusesCommand, IsNext, TakesSpanned}
 
 -- behind the header of theory texts the form is theirs
 form_is : (s : Begun) → IsTheory s → form_in s (allowed_words kinds.All) ≡ theory_text

@@ -1,10 +1,9 @@
 -- Commands that are taken, and those that are refused.
-use Rattle.std.specs.Prelude.{if◌then◌else◌, is_some, is_none, option_map, fold, not}
-use Rattle.std.specs.List.{list_any}
-use Rattle.std.proofs.Common.{◌≡◌, ◌≢◌, ◌⊎◌, inl, inr, ℕ, List, [], ◌∷◌, ◌++◌, length, map, Bool, true, false, Option, Some, None, Result, Ok, Err, refl, sym, ◌∙◌, ap, subst, codes, ◌||◌, append-nil}
+use Rattle.std.specs.Prelude.{if◌then◌else◌, is_none, option_map, not}
+use Rattle.std.proofs.Common.{◌≡◌, ◌≢◌, ◌⊎◌, inl, inr, List, [], ◌∷◌, ◌++◌, length, Bool, true, false, Option, Some, None, Result, Ok, Err, refl, sym, ◌∙◌, ap, subst, append-nil}
 use Rattle.std.proofs.lemmas.List.{map-append}
 use Rattle.std.proofs.lemmas.List.Sums.{fold-append}
-use Rattle.lt_definitions.specs.Types.{Chars, same_name, found}
+use Rattle.lt_definitions.specs.Types.{Chars, found}
 use Rattle.lt_definitions.specs.Terms.{TermTree}
 use Rattle.lt_definitions.specs.Alpha.{is_alpha}
 use Rattle.lt_definitions.specs.Items as theory
@@ -19,7 +18,7 @@ use Rattle.lt_commands.specs.declared.command.Command.{Command as Data}
 use Rattle.lt_commands.specs.declared.command.Command.TheVariants.{TypeDecl, ConstDecl, Axiom, Def, Typedef, Lemma, Law, Corr, Relator, Property, Domain, Rule as RuleCommand, Lifting, LiftingTypedef, QuotientType, Lift, Parametric, ParamRule, Equiv, Implies, Carry, AbsEq, RepEq}
 use Rattle.lt_commands.specs.declared.refusal.Refused.{Refused}
 use Rattle.lt_commands.specs.declared.refusal.Refusal.{Refusal}
-use Rattle.lt_commands.specs.declared.refusal.Refusal.TheVariants.{NotBuilt, UnknownLabel, Memory}
+use Rattle.lt_commands.specs.declared.refusal.Refusal.TheVariants.{UnknownLabel, Memory}
 use Rattle.lt_conditions.specs.declared.item_fault.ItemFault.{ItemFault}
 use Rattle.lt_conditions.specs.Refusing as conditions
 use Rattle.lt_extend.specs.Theories.{items_of, context_behind}
@@ -34,16 +33,16 @@ use Rattle.lt_laws.specs.declared.law_fault.LawFault.TheVariants as faults
 use Rattle.lt_laws.specs.declared.law_fault.LawFault.TheVariants.{UnknownLaw, LawDiffers}
 use Rattle.lt_laws.specs.Registering.{with_law, differs_from, law_fault, Tests}
 use Rattle.lt_transport_definitions.specs.Sessions.{Session, Typedef as TypedefEntry}
-use Rattle.lt_transport_definitions.specs.Commands.{CommandRefusal, as_item, because, this_item, Block, law_registered, session_behind, unless_there, with_typedef_of, with_registration}
+use Rattle.lt_transport_definitions.specs.Commands.{CommandRefusal, as_item, because, this_item, Block, law_registered, session_behind, with_typedef_of}
 use Rattle.lt_transport_definitions.specs.LawTexts.{law_statement}
 use Rattle.lt_transport_definitions.specs.Blocks.{Unless, OfValue, ComesOfRow, ComesOf, Gives}
 use Rattle.lt_transport_definitions.specs.Answers.{first_wrong, wrong_where}
 use Rattle.lt_transport_definitions.specs.Rows.{Row, BlockOutcome, ◌⊳◌, with_value, adds, item_test}
-use Rattle.lt_transport_definitions.specs.Table.{registers, row_of}
+use Rattle.lt_transport_definitions.specs.Table.{registers}
 use Rattle.lt_transport_definitions.specs.TheoryWalks.{line_of}
 use Rattle.lt_session.specs.declared.session.Block.{Block as Answered}
 use Rattle.lt_session.specs.Sessions.{Holding, session_of, typedefs_of}
-use Rattle.lt_session.specs.Taking.{is_built, of_law, TellsRefusal, IsNotBuilt, IsRefused, Refuses, IsTaken, Takes}
+use Rattle.lt_session.specs.Taking.{is_built, of_law, TellsRefusal, Refuses, IsTaken, Takes}
 
 -- ---- items
 

@@ -1,5 +1,5 @@
 -- What a session answers to a command.
-use Rattle.std.specs.Prelude.{◌≡◌, ◌⊎◌, List, ◌++◌, length, Bool, true, false, Option, None, Result, Ok, Err}
+use Rattle.std.specs.Prelude.{◌≡◌, ◌⊎◌, List, ◌++◌, length, Bool, true, false, None, Result, Ok, Err}
 use Rattle.lt_texts.specs.Commands.{Command, item_command, law_command}
 use Rattle.lt_hol.specs.declared.item.Item.{Item}
 use Rattle.lt_extend.specs.Theories.{items_of}

@@ -4,7 +4,7 @@ use Rattle.lt_definitions.specs.Types.{Chars}
 use Rattle.lt_definitions.specs.Items.{Item}
 use Rattle.lt_texts.specs.Commands.{Command}
 use Rattle.lt_texts.specs.Forms.{theory_text}
-use Rattle.lt_walks.specs.Walks.{Meanings, End, WalksText, Walks}
+use Rattle.lt_walks.specs.Walks.{Meanings}
 use Rattle.lt_transport_definitions.specs.Sessions.{Session, new_session}
 use Rattle.lt_transport_definitions.specs.Commands.{CommandRefusal}
 use Rattle.lt_transport_definitions.specs.Blocks.{ComesOf, Gives}

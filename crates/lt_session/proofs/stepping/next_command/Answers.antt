@@ -1,6 +1,6 @@
 use Rattle.std.proofs.Common.{refl}
 use Rattle.lt_session.specs.Sessions.{session_of}
-use Rattle.lt_session.proofs.Steppings.{refuses_theory, next_theory, end_theory, stops_unread, steps_on, steps_end}
+use Rattle.lt_session.proofs.Steppings.{refuses_theory, next_theory, stops_unread, steps_on, steps_end}
 use Rattle.lt_session.proofs.stepping.next_command.Goals as goal
 
 pub returns-in-Err-clause-steps : goal.returns-in-Err-clause-steps

@@ -1,6 +1,5 @@
-use Rattle.std.proofs.Common.{refl, ◌∙◌, ap}
+use Rattle.std.proofs.Common.{refl}
 use Rattle.lt_commands.specs.Views.{command_of}
-use Rattle.lt_walks.specs.Walks.{place_of}
 use Rattle.lt_session.specs.Sessions.{session_of}
 use Rattle.lt_session.proofs.Steppings.{refuses_command}
 use Rattle.lt_session.proofs.stepping.take_spanned.Goals as goal
