@@ -7,3 +7,5 @@ pub mod Showings
 pub mod Fronts
 pub mod WrittenItems
 pub mod Runnings
+pub mod TableWalks
+pub mod OneOutcome

@@ -4,7 +4,7 @@ use Rattle.lt_definitions.specs.Types.{Chars}
 use Rattle.lt_definitions.specs.Items.{Item}
 use Rattle.lt_texts.specs.Commands.{Command}
 use Rattle.lt_texts.specs.Forms.{theory_text}
-use Rattle.lt_walks.specs.Walks.{Meanings}
+use Rattle.lt_walks.specs.Walks.{Meanings, End, accepted, too_long, wrong_header, unread, refused}
 use Rattle.lt_transport_definitions.specs.Sessions.{Session, new_session}
 use Rattle.lt_transport_definitions.specs.Commands.{CommandRefusal}
 use Rattle.lt_transport_definitions.specs.Blocks.{ComesOf, Gives}
@@ -44,3 +44,11 @@ built_commands limit = record {
   Refuses = RefusesBuilt;
   line = line_in;
 }
+
+-- how a walk over the table ends, as an end of the walk of the built commands
+abbrev pub built_end : End CommandRefusal → End RunRefusal
+built_end accepted = accepted
+built_end too_long = too_long
+built_end (wrong_header e) = wrong_header e
+built_end (unread e) = unread e
+built_end (refused r place) = refused (by_table r) place

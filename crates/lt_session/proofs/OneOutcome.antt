@@ -1,0 +1,92 @@
+-- One block or one refusal comes of each built command.
+use Rattle.std.proofs.Common.{◌≡◌, List, [], ◌∷◌, Bool, true, false, Option, Some, None, Ok, Err, refl, sym, ◌∙◌, ap, subst, ℕ}
+use Rattle.lt_definitions.specs.Items as theory
+use Rattle.lt_texts.specs.Commands.{Command, item_command, law_command, corr_command, relator_command, property_command, domain_command, rule_command, lifting_command, lifting_typedef_command, quotient_type_command, lift_command, parametric_command, param_rule_command, equiv_command, implies_command, carry_command, abs_eq_command, rep_eq_command}
+use Rattle.lt_walks.specs.Walks.{AreOne}
+use Rattle.lt_transport_definitions.specs.Sessions.{Session}
+use Rattle.lt_transport_definitions.specs.Commands.{CommandRefusal, Addition, this_item, a_lemma, Block, session_behind}
+use Rattle.lt_transport_definitions.specs.Rows.{BlockOutcome}
+use Rattle.lt_transport_definitions.specs.Blocks.{Unless, OfValue, ComesOf, AreItemsOf, Gives}
+use Rattle.lt_session.specs.Taking.{is_built}
+use Rattle.lt_session.specs.Walks.{RunRefusal, by_table, not_built, GivesBuilt, RefusesBuilt, built_commands}
+
+-- items as they stand, and no lemma with free lines
+abbrev AreThese : List Addition → Type 0
+AreThese [] = Unit {0}
+AreThese (this_item i ∷ additions) = AreThese additions
+AreThese (a_lemma l t ∷ additions) = ⊥
+
+-- One outcome is said, and a block has items as they stand.
+record IsOne (P : BlockOutcome → Type 0) : Type 0 where
+  one : (o p : BlockOutcome) → P o → P p → o ≡ p
+  these : (b : Block) → P (Ok b) → AreThese b.additions
+
+one-block : (b : Block) → AreThese b.additions → IsOne (λ o. o ≡ Ok b)
+one-block b h = record {
+  one = λ o p a c. a ∙ sym c;
+  these = λ d e. let same : d ≡ b = cc e in subst (λ (z : Block). AreThese z.additions) (sym same) h;
+}
+
+one-refusal : (r : CommandRefusal) → IsOne (λ o. o ≡ Err r)
+one-refusal r = record { one = λ o p a c. a ∙ sym c; these = λ d e. absurd (cc e) }
+
+one-unless : (r : Option CommandRefusal) (P : BlockOutcome → Type 0) → IsOne P → IsOne (Unless r P)
+one-unless None P h = h
+one-unless (Some r) P h = one-refusal r
+
+one-value : {A : Type 0} (x : Option A) (r : CommandRefusal) (P : A → BlockOutcome → Type 0) → ((y : A) → IsOne (P y)) → IsOne (OfValue x r P)
+one-value None r P h = one-refusal r
+one-value (Some y) r P h = h y
+
+one-comes : (s : Session) (c : Command) → is_built c ≡ true → IsOne (ComesOf s c)
+one-comes s (item_command i) b = one-unless _ _ (one-block _ tt)
+one-comes s (law_command w l) b = one-unless _ _ (one-value _ _ _ (λ t. one-value _ _ _ (λ u. one-unless _ _ (one-block _ tt))))
+one-comes s (corr_command a) b = absurd (cc b)
+one-comes s (relator_command x y z u v w) b = absurd (cc b)
+one-comes s (property_command l) b = absurd (cc b)
+one-comes s (domain_command l) b = absurd (cc b)
+one-comes s (rule_command l) b = absurd (cc b)
+one-comes s (lifting_command l) b = absurd (cc b)
+one-comes s (lifting_typedef_command q) b = absurd (cc b)
+one-comes s (quotient_type_command q params r l) b = absurd (cc b)
+one-comes s (lift_command n ty t l) b = absurd (cc b)
+one-comes s (parametric_command q) b = absurd (cc b)
+one-comes s (param_rule_command n l m) b = absurd (cc b)
+one-comes s (equiv_command n t) b = absurd (cc b)
+one-comes s (implies_command n t) b = absurd (cc b)
+one-comes s (carry_command n e l) b = absurd (cc b)
+one-comes s (abs_eq_command a) b = absurd (cc b)
+one-comes s (rep_eq_command a) b = absurd (cc b)
+
+one-items : (additions : List Addition) (xs ys : List theory.Item) → AreThese additions → AreItemsOf additions xs → AreItemsOf additions ys → xs ≡ ys
+one-items [] [] [] t h k = refl
+one-items [] [] (y ∷ ys) t h k = absurd k
+one-items [] (x ∷ xs) ys t h k = absurd h
+one-items (a_lemma l s ∷ additions) xs ys t h k = absurd t
+one-items (this_item i ∷ additions) [] ys t h k = absurd h
+one-items (this_item i ∷ additions) (x ∷ xs) [] t h k = absurd k
+one-items (this_item i ∷ additions) (x ∷ xs) (y ∷ ys) t (h, hs) (k, ks) = λ n. (h ∙ sym k) n ∷ one-items additions xs ys t hs ks n
+
+one-adds : (s : Session) (c : Command) (xs ys : List theory.Item) (a b : Session) → GivesBuilt s c xs a → GivesBuilt s c ys b → (xs ≡ ys) × (a ≡ b)
+one-adds s c xs ys a b (built, (d, comes, items, valid, is)) (_, (e, comes', items', valid', is')) =
+    let one = one-comes s c built in
+    let both : Ok d ≡ Ok e = one.one (Ok d) (Ok e) comes comes' in
+    let same : d ≡ e = cc both in (
+      one-items d.additions xs ys (one.these d comes) items (subst (λ (z : Block). AreItemsOf z.additions ys) (sym same) items'),
+      is ∙ ap (session_behind s) same ∙ sym is',
+    )
+
+one-refuses : (s : Session) (c : Command) (r q : RunRefusal) → RefusesBuilt s c r → RefusesBuilt s c q → r ≡ q
+one-refuses s c (by_table r) (by_table q) (built, comes) (_, comes') =
+    let both : Err r ≡ Err q = (one-comes s c built).one (Err r) (Err q) comes comes' in
+    let same : r ≡ q = cc both in ap by_table same
+one-refuses s c (by_table r) not_built (built, comes) unbuilt = absurd (cc (sym built ∙ unbuilt))
+one-refuses s c not_built (by_table q) unbuilt (built, comes) = absurd (cc (sym built ∙ unbuilt))
+one-refuses s c not_built not_built h k = refl
+
+one-apart : (s : Session) (c : Command) (xs : List theory.Item) (a : Session) (r : RunRefusal) → GivesBuilt s c xs a → RefusesBuilt s c r → ⊥
+one-apart s c xs a (by_table r) (built, (d, comes, items, valid, is)) (_, comes') = cc ((one-comes s c built).one (Ok d) (Err r) comes comes')
+one-apart s c xs a not_built (built, gives) unbuilt = cc (sym built ∙ unbuilt)
+
+pub built_one : (limit : ℕ) → AreOne (built_commands limit)
+built_one limit = record { adds = one-adds; refuses = one-refuses; apart = one-apart }
