@@ -1,14 +1,23 @@
 -- One block or one refusal comes of each built command.
-use Rattle.std.proofs.Common.{◌≡◌, List, [], ◌∷◌, Bool, true, false, Option, Some, None, Ok, Err, refl, sym, ◌∙◌, ap, subst, ℕ}
+use Rattle.std.proofs.Common.{◌≡◌, List, [], ◌∷◌, true, Option, Some, None, Ok, Err, refl, sym, ◌∙◌, ap, subst, ℕ}
+use Rattle.std.specs.Prelude.{not}
+use Rattle.lt_definitions.specs.Types.{Chars, found}
+use Rattle.lt_definitions.specs.Terms.{TermTree}
+use Rattle.lt_definitions.specs.Alpha.{is_alpha}
 use Rattle.lt_definitions.specs.Items as theory
+use Rattle.lt_definitions.specs.Theory.{unknown_statement}
 use Rattle.lt_texts.specs.Commands.{Command, item_command, law_command, corr_command, relator_command, property_command, domain_command, rule_command, lifting_command, lifting_typedef_command, quotient_type_command, lift_command, parametric_command, param_rule_command, equiv_command, implies_command, carry_command, abs_eq_command, rep_eq_command}
 use Rattle.lt_walks.specs.Walks.{AreOne}
 use Rattle.lt_transport_definitions.specs.Sessions.{Session}
-use Rattle.lt_transport_definitions.specs.Commands.{CommandRefusal, Addition, this_item, a_lemma, Block, session_behind}
+use Rattle.lt_transport_definitions.specs.Commands.{CommandRefusal, as_item, because, law_registered, Addition, this_item, a_lemma, Block, session_behind}
 use Rattle.lt_transport_definitions.specs.Rows.{BlockOutcome}
-use Rattle.lt_transport_definitions.specs.Blocks.{Unless, OfValue, ComesOf, AreItemsOf, Gives}
+use Rattle.lt_transport_definitions.specs.Blocks.{Unless, OfValue, ComesOfRow, ComesOf, AreItemsOf}
+use Rattle.lt_transport_definitions.specs.Answers.{first_wrong, wrong_where}
+use Rattle.lt_transport_definitions.specs.LawTexts.{law_statement}
+use Rattle.lt_transport_definitions.specs.Table.{registers}
 use Rattle.lt_session.specs.Taking.{is_built}
 use Rattle.lt_session.specs.Walks.{RunRefusal, by_table, not_built, GivesBuilt, RefusesBuilt, built_commands}
+use Rattle.lt_session.proofs.Takings.{law-row, label-wrong, law-block, OfLaw}
 
 -- items as they stand, and no lemma with free lines
 abbrev AreThese : List Addition → Type 0
@@ -38,9 +47,19 @@ one-value : {A : Type 0} (x : Option A) (r : CommandRefusal) (P : A → BlockOut
 one-value None r P h = one-refusal r
 one-value (Some y) r P h = h y
 
+one-law : (s : Session) (w l : Chars) → IsOne (ComesOf s (law_command w l))
+one-law s w l =
+    one-unless (first_wrong (label-wrong l (found l s.context.statements) ∷ None ∷ None ∷ [])) (ComesOfRow s (law-row s w l (found l s.context.statements)))
+    (one-value (found l s.context.statements) (as_item (unknown_statement l)) (λ t o. OfLaw s w l t (law_statement w) o)
+    (λ t. one-value (law_statement w) (because "UnknownLaw" (w ∷ [])) (OfSame t)
+    (λ u. one-unless (wrong_where (not (is_alpha t u)) (because "LawDiffers" (w ∷ []))) (ComesOfRow s (registers (law_registered w l))) (one-block (law-block w l) tt))))
+  where
+    OfSame : TermTree → TermTree → BlockOutcome → Type 0
+    OfSame t u p = Unless (wrong_where (not (is_alpha t u)) (because "LawDiffers" (w ∷ []))) (ComesOfRow s (registers (law_registered w l))) p
+
 one-comes : (s : Session) (c : Command) → is_built c ≡ true → IsOne (ComesOf s c)
 one-comes s (item_command i) b = one-unless _ _ (one-block _ tt)
-one-comes s (law_command w l) b = one-unless _ _ (one-value _ _ _ (λ t. one-value _ _ _ (λ u. one-unless _ _ (one-block _ tt))))
+one-comes s (law_command w l) b = one-law s w l
 one-comes s (corr_command a) b = absurd (cc b)
 one-comes s (relator_command x y z u v w) b = absurd (cc b)
 one-comes s (property_command l) b = absurd (cc b)

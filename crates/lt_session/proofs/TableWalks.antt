@@ -1,14 +1,13 @@
 -- A walk of the built commands that ends as one over the whole table can is that one.
-use Rattle.std.proofs.Common.{◌≡◌, ◌⊎◌, inl, inr, ℕ, List, [], ◌∷◌, refl, sym, ◌∙◌, ap, subst}
+use Rattle.std.proofs.Common.{◌≡◌, inl, inr, ℕ, List, [], ◌∷◌, refl, ap}
 use Rattle.lt_definitions.specs.Items.{Item}
-use Rattle.lt_texts.specs.Texts.{Left, left_of}
-use Rattle.lt_texts.specs.Commands.{Command}
+use Rattle.lt_texts.specs.Texts.{Left}
 use Rattle.lt_texts.specs.WrongPlaces.{Wrong}
 use Rattle.lt_walks.specs.Walks.{End, accepted, too_long, wrong_header, unread, refused, place_of, EndsThere, WalksOn, WalksText, Walks}
 use Rattle.lt_transport_definitions.specs.Sessions.{Session, new_session}
 use Rattle.lt_transport_definitions.specs.Commands.{CommandRefusal}
 use Rattle.lt_transport_definitions.specs.TheoryWalks.{line_of, theory_commands, RunsText}
-use Rattle.lt_session.specs.Walks.{RunRefusal, by_table, not_built, RefusesBuilt, line_in, built_commands, built_end}
+use Rattle.lt_session.specs.Walks.{by_table, not_built, built_commands, built_end}
 
 end-accepted : (end : End CommandRefusal) → built_end end ≡ accepted → end ≡ accepted
 end-accepted accepted e = refl

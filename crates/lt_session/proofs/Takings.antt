@@ -111,13 +111,13 @@ refuses-item s item fault x h same line = by (told (refusal (context_behind s.it
 
 -- ---- laws
 
-abbrev law-row : Session → Chars → Chars → Option TermTree → Row
+abbrev pub law-row : Session → Chars → Chars → Option TermTree → Row
 law-row s w l t = with_value t (as_item (unknown_statement l)) λ u.
     with_value (law_statement w) (because "UnknownLaw" (w ∷ [])) λ law.
     wrong_where (not (is_alpha u law)) (because "LawDiffers" (w ∷ [])) ⊳
     registers (law_registered w l)
 
-abbrev label-wrong : Chars → Option TermTree → Option CommandRefusal
+abbrev pub label-wrong : Chars → Option TermTree → Option CommandRefusal
 label-wrong l t = item_test (wrong_where (is_none t) (unknown_statement l))
 
 -- what comes of `law`, by the statement of its label
@@ -129,7 +129,7 @@ abbrev pub law-block : Chars → Chars → Block
 law-block w l = record { additions = []; registrations = law_registered w l ∷ [] }
 
 -- what comes of the statement, by that of the law
-abbrev OfLaw : Session → Chars → Chars → TermTree → Option TermTree → BlockOutcome → Type 0
+abbrev pub OfLaw : Session → Chars → Chars → TermTree → Option TermTree → BlockOutcome → Type 0
 OfLaw s w l t law o = OfValue law (because "UnknownLaw" (w ∷ [])) (λ u p. Unless (wrong_where (not (is_alpha t u)) (because "LawDiffers" (w ∷ []))) (ComesOfRow s (registers (law_registered w l))) p) o
 
 accepts-by : (s : Session) (w l : Chars) (b : Bool) → (if b then None else Some (LawDiffers w)) ≡ None
