@@ -11,7 +11,7 @@ use Rattle.lt_io.specs.Written.{Grew, GrewByFront}
 use Rattle.lt_io.proofs.WriteLemmas.{Grew-append}
 use Rattle.lt_walks.specs.Walks.{End, accepted, too_long, wrong_header, unread, refused}
 use Rattle.lt_walks.specs.Outputs.{summary_of}
-use Rattle.lt_run.proofs.Fronts.{Grew-none, Grew-after_none, front_all, front_first, front_behind, front_longer, front_none}
+use Rattle.lt_session.proofs.Fronts.{Grew-none, Grew-after_none, front_all, front_first, front_behind, front_longer, front_none}
 
 -- the bytes of summary lines
 abbrev pub lines_of : List Item → List ℕ
