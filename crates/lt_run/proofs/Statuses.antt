@@ -39,32 +39,32 @@ Went {R} E C Tells (Err (stops.Refused p)) = (end : End R) × E end × Tells end
 Went E C Tells (Err stops.Fault) = C
 Went E C Tells (Err stops.Memory) = C
 
-accepted-by : {R C : Type 0} {E : End R → Type 0} {Tells : End R → Placed → Type 0} (names : List (List ℕ)) (j : Joined) (walked : Result (Unit {0}) Stop) (status : ℕ) (err err' : Option (List ℕ))
+accepted-by : (R C : Type 0) (E : End R → Type 0) (Tells : End R → Placed → Type 0) (names : List (List ℕ)) (j : Joined) (walked : Result (Unit {0}) Stop) (status : ℕ) (err err' : Option (List ℕ))
     → Went E C Tells walked → TellsWalk names j walked status err err' → status ≡ 0 → E accepted × Grew err err' []
-accepted-by names j (Ok u) status err err' w t zero' = (w, t.1)
-accepted-by names j (Err (stops.Refused p)) status err err' w t zero' = absurd (apart t.0)
+accepted-by R C E Tells names j (Ok u) status err err' w t zero' = (w, t.1)
+accepted-by R C E Tells names j (Err (stops.Refused p)) status err err' w t zero' = absurd (apart t.0)
   where
     apart : (status ≡ 1) ⊎ (status ≡ 4) ⊎ (status ≡ 5) → ⊥
     apart (inl one) = omega (arith, one, zero')
     apart (inr (inl four)) = omega (arith, four, zero')
     apart (inr (inr five)) = omega (arith, five, zero')
-accepted-by names j (Err stops.Fault) status err err' w t zero' = absurd (omega (arith, t, zero'))
-accepted-by names j (Err stops.Memory) status err err' w t zero' = absurd (omega (arith, t, zero'))
+accepted-by R C E Tells names j (Err stops.Fault) status err err' w t zero' = absurd (omega (arith, t, zero'))
+accepted-by R C E Tells names j (Err stops.Memory) status err err' w t zero' = absurd (omega (arith, t, zero'))
 
-refused-by : {R C : Type 0} {E : End R → Type 0} {Tells : End R → Placed → Type 0} (names : List (List ℕ)) (j : Joined) (walked : Result (Unit {0}) Stop) (status : ℕ) (err err' : Option (List ℕ))
+refused-by : (R C : Type 0) (E : End R → Type 0) (Tells : End R → Placed → Type 0) (names : List (List ℕ)) (j : Joined) (walked : Result (Unit {0}) Stop) (status : ℕ) (err err' : Option (List ℕ))
     → Went E C Tells walked → TellsWalk names j walked status err err' → status ≡ 1
     → (end : End R) × (p : Placed) × E end × Tells end p × ((held : List File) → AreNames names held → IsJoinedOf held j → Grew err err' (placed_line held p))
-refused-by names j (Ok u) status err err' w t one = absurd (omega (arith, t.0, one))
-refused-by names j (Err (stops.Refused p)) status err err' w t one = (w.0, p, w.1, w.2, t.1 one)
-refused-by names j (Err stops.Fault) status err err' w t one = absurd (omega (arith, t, one))
-refused-by names j (Err stops.Memory) status err err' w t one = absurd (omega (arith, t, one))
+refused-by R C E Tells names j (Ok u) status err err' w t one = absurd (omega (arith, t.0, one))
+refused-by R C E Tells names j (Err (stops.Refused p)) status err err' w t one = (w.0, p, w.1, w.2, t.1 one)
+refused-by R C E Tells names j (Err stops.Fault) status err err' w t one = absurd (omega (arith, t, one))
+refused-by R C E Tells names j (Err stops.Memory) status err err' w t one = absurd (omega (arith, t, one))
 
-front-by : {R C : Type 0} {E : End R → Type 0} {Tells : End R → Placed → Type 0} (names : List (List ℕ)) (j : Joined) (walked : Result (Unit {0}) Stop) (status : ℕ) (err err' : Option (List ℕ))
+front-by : (R C : Type 0) (E : End R → Type 0) (Tells : End R → Placed → Type 0) (names : List (List ℕ)) (j : Joined) (walked : Result (Unit {0}) Stop) (status : ℕ) (err err' : Option (List ℕ))
     → ((end : End R) → E end → C) → Went E C Tells walked → TellsWalk names j walked status err err' → (status ≡ 4) ⊎ (status ≡ 5) → C
-front-by names j (Ok u) status err err' whole w t stopped = whole accepted w
-front-by names j (Err (stops.Refused p)) status err err' whole w t stopped = whole w.0 w.1
-front-by names j (Err stops.Fault) status err err' whole w t stopped = w
-front-by names j (Err stops.Memory) status err err' whole w t stopped = w
+front-by R C E Tells names j (Ok u) status err err' whole w t stopped = whole accepted w
+front-by R C E Tells names j (Err (stops.Refused p)) status err err' whole w t stopped = whole w.0 w.1
+front-by R C E Tells names j (Err stops.Fault) status err err' whole w t stopped = w
+front-by R C E Tells names j (Err stops.Memory) status err err' whole w t stopped = w
 
 pub status_told : (names : List (List ℕ)) (j : Joined) (walked : Result (Unit {0}) Stop) (status : ℕ) (err err' : Option (List ℕ)) → TellsWalk names j walked status err err'
     → (status ≡ 0) ⊎ (status ≡ 1) ⊎ (status ≡ 4) ⊎ (status ≡ 5)
@@ -94,13 +94,13 @@ pub check_accepted : (names : List (List ℕ)) (j : Joined) (text : List ℕ) (i
     → IsWalked text items out out' walked → TellsWalk names j walked status err err' → status ≡ 0 → IsTold names j items accepted out out' err err'
 unfolding check_line
 check_accepted names j text items out out' err err' walked status e w t zero' =
-    let known = accepted-by names j walked status err err' (walk-went text items out out' walked w) t zero' in
+    let known = accepted-by Refusal (IsCut text items out out') (λ end. IsEnd text items end out out') TellsEnd names j walked status err err' (walk-went text items out out' walked w) t zero' in
     record { walked = subst (λ (z : List ℕ). IsEnd z items accepted out out') e known.0; line = λ held are joined. known.1 }
 
 pub check_refused : (names : List (List ℕ)) (j : Joined) (text : List ℕ) (items : List Item) (out out' err err' : Option (List ℕ)) (walked : Result (Unit {0}) Stop) (status : ℕ) → text ≡ j.text.items
     → IsWalked text items out out' walked → TellsWalk names j walked status err err' → status ≡ 1 → (end : End Refusal) × (end ≢ accepted) × IsTold names j items end out out' err err'
 check_refused names j text items out out' err err' walked status e w t one =
-    let (end, p, walk, tells, line) = refused-by names j walked status err err' (walk-went text items out out' walked w) t one in (
+    let (end, p, walk, tells, line) = refused-by Refusal (IsCut text items out out') (λ end. IsEnd text items end out out') TellsEnd names j walked status err err' (walk-went text items out out' walked w) t one in (
       end,
       tells-refusal TellsEnd end p (λ none. none) tells,
       record {
@@ -123,7 +123,7 @@ pub check_front : (names : List (List ℕ)) (j : Joined) (text : List ℕ) (item
     → IsWalked text items out out' walked → TellsWalk names j walked status err err' → (status ≡ 4) ⊎ (status ≡ 5) → IsCut j.text.items items out out'
 check_front names j text items out out' err err' walked status e w t stopped =
     subst (λ (z : List ℕ). IsCut z items out out') e
-    (front-by names j walked status err err' (λ end. cut-of-end text items end out out') (walk-went text items out out' walked w) t stopped)
+    (front-by Refusal (IsCut text items out out') (λ end. IsEnd text items end out out') TellsEnd names j walked status err err' (λ end. cut-of-end text items end out out') (walk-went text items out out' walked w) t stopped)
 
 -- ---- `run`
 
@@ -138,14 +138,14 @@ pub run_accepted : (limit : ℕ) (summary : Bool) (names : List (List ℕ)) (j :
     (status : ℕ) → text ≡ j.text.items → IsRun limit summary text items out out' walked → TellsWalk names j walked status err err' → status ≡ 0
     → IsRunTold limit summary names j items accepted out out' err err'
 run_accepted limit summary names j text items out out' err err' walked status e w t zero' =
-    let known = accepted-by names j walked status err err' (run-went limit summary text items out out' walked w) t zero' in
+    let known = accepted-by RunRefusal (IsRunCut limit summary text items out out') (λ end. IsRunEnd limit summary text items end out out') TellsRunEnd names j walked status err err' (run-went limit summary text items out out' walked w) t zero' in
     record { walked = subst (λ (z : List ℕ). IsRunEnd limit summary z items accepted out out') e known.0; line = λ held are joined. known.1 }
 
 pub run_refused : (limit : ℕ) (summary : Bool) (names : List (List ℕ)) (j : Joined) (text : List ℕ) (items : List Item) (out out' err err' : Option (List ℕ)) (walked : Result (Unit {0}) Stop)
     (status : ℕ) → text ≡ j.text.items → IsRun limit summary text items out out' walked → TellsWalk names j walked status err err' → status ≡ 1
     → (end : End RunRefusal) × (end ≢ accepted) × IsRunTold limit summary names j items end out out' err err'
 run_refused limit summary names j text items out out' err err' walked status e w t one =
-    let (end, p, walk, tells, line) = refused-by names j walked status err err' (run-went limit summary text items out out' walked w) t one in (
+    let (end, p, walk, tells, line) = refused-by RunRefusal (IsRunCut limit summary text items out out') (λ end. IsRunEnd limit summary text items end out out') TellsRunEnd names j walked status err err' (run-went limit summary text items out out' walked w) t one in (
       end,
       tells-refusal TellsRunEnd end p (λ none. none) tells,
       record {
@@ -192,4 +192,4 @@ pub run_front : (limit : ℕ) (summary : Bool) (names : List (List ℕ)) (j : Jo
     → IsRunCut limit summary j.text.items items out out'
 run_front limit summary names j text items out out' err err' walked status e w t stopped =
     subst (λ (z : List ℕ). IsRunCut limit summary z items out out') e
-    (front-by names j walked status err err' (λ end. cut-of-run limit summary text items end out out') (run-went limit summary text items out out' walked w) t stopped)
+    (front-by RunRefusal (IsRunCut limit summary text items out out') (λ end. IsRunEnd limit summary text items end out out') TellsRunEnd names j walked status err err' (λ end. cut-of-run limit summary text items end out out') (run-went limit summary text items out out' walked w) t stopped)
