@@ -37,17 +37,17 @@ none_read words call none a = let apart : None ≡ Some call = none ∙ a in abs
 
 -- ---- what comes of a mode
 
-pub in_run : {R C : Type 0} {T : List ℕ → Type 0} (m : Mode) → m ≡ Run → R → OfMode m R C T
-in_run {R = R} {C = C} {T = T} m e h = subst (λ (k : Mode). OfMode k R C T) (sym e) h
+pub in_run : (R C : Type 0) (T : List ℕ → Type 0) (m : Mode) → m ≡ Run → R → OfMode m R C T
+in_run R C T m e h = subst (λ (k : Mode). OfMode k R C T) (sym e) h
 
-pub in_check : {R C : Type 0} {T : List ℕ → Type 0} (m : Mode) → m ≡ Check → C → OfMode m R C T
-in_check {R = R} {C = C} {T = T} m e h = subst (λ (k : Mode). OfMode k R C T) (sym e) h
+pub in_check : (R C : Type 0) (T : List ℕ → Type 0) (m : Mode) → m ≡ Check → C → OfMode m R C T
+in_check R C T m e h = subst (λ (k : Mode). OfMode k R C T) (sym e) h
 
-pub in_laws : {R C : Type 0} {T : List ℕ → Type 0} (m : Mode) → m ≡ Laws → T (encode_utf8_all laws_text) → OfMode m R C T
-in_laws {R = R} {C = C} {T = T} m e h = subst (λ (k : Mode). OfMode k R C T) (sym e) h
+pub in_laws : (R C : Type 0) (T : List ℕ → Type 0) (m : Mode) → m ≡ Laws → T (encode_utf8_all laws_text) → OfMode m R C T
+in_laws R C T m e h = subst (λ (k : Mode). OfMode k R C T) (sym e) h
 
-pub in_gen : {R C : Type 0} {T : List ℕ → Type 0} (m : Mode) (n : ℕ) → m ≡ Gen n → T (encode_utf8_all (generated_text n)) → OfMode m R C T
-in_gen {R = R} {C = C} {T = T} m n e h = subst (λ (k : Mode). OfMode k R C T) (sym e) h
+pub in_gen : (R C : Type 0) (T : List ℕ → Type 0) (m : Mode) (n : ℕ) → m ≡ Gen n → T (encode_utf8_all (generated_text n)) → OfMode m R C T
+in_gen R C T m n e h = subst (λ (k : Mode). OfMode k R C T) (sym e) h
 
 -- nothing came of it, or it stands as far as it came
 pub in_part : {N A B : Type 0} → (A → B) → N ⊎ A → N ⊎ B

@@ -1,5 +1,5 @@
 -- What comes of a call over what never fails.
-use Rattle.std.proofs.Common.{◌≡◌, ◌≢◌, ◌⊎◌, inl, inr, ℕ, ◌+◌, ◌<◌, ◌≤◌, true, false, List, [], ◌∷◌, ◌++◌, length, Option, Some, None, refl, sym, ◌∙◌, ap, subst, arith, length-append, append-nil}
+use Rattle.std.proofs.Common.{◌≡◌, ◌≢◌, ◌⊎◌, inl, inr, ℕ, ◌+◌, ◌<◌, ◌≤◌, Bool, true, false, List, [], ◌∷◌, ◌++◌, length, Option, Some, None, refl, sym, ◌∙◌, ap, subst, arith, length-append, append-nil}
 use Rattle.std.specs.Prelude.{IsSome}
 use Rattle.lt_definitions.specs.Items.{Item}
 use Rattle.lt_definitions.specs.Theory.{Refusal}
@@ -17,7 +17,7 @@ use Rattle.lt_transport_definitions.specs.TheoryWalks.{theory_limit}
 use Rattle.lt_session.specs.Walks.{RunRefusal, built_commands}
 use Rattle.lt_run.specs.Joining.{AreIn, AreReadWithin, KeepsTold, HoldsAll}
 use Rattle.lt_run.specs.Runs.{RunEnds}
-use Rattle.lt_run.specs.Outcomes.{OfMode, IsDone, IsRefused}
+use Rattle.lt_run.specs.Outcomes.{OfMode, IsWritten, IsDone, IsRefused}
 use Rattle.lt_run.proofs.Asking.{one_call}
 use Rattle.lt_run.proofs.Joins.{joined_parts}
 use Rattle.lt_run.proofs.OneRun.{one_run}
@@ -106,6 +106,29 @@ run-end old now names limit summary held blocks found end last out out' err err'
         one_run limit (joined_text read) others [] last too_long w (inl (long, refl, refl))
         ∙ sym (one_run limit (joined_text held) blocks [] end too_long walk (inl (also, refl, refl)))
 
+-- ---- what came of a call, by its mode
+
+module _ (call : Call) (now : Option Files) (found : List Item) (out out' err err' : Option (List ℕ)) where
+  done-run : call.mode ≡ Run → IsDone call now found out out' err err' → RunEnds now call.files call.limit call.summary found accepted out out' err err'
+  done-run e h = subst (λ (m : Mode). OfMode m (RunEnds now call.files call.limit call.summary found accepted out out' err err') (CheckEnds now call.files found accepted out out' err err')
+      (λ text. IsWritten text found out out' err err')) e h
+
+  done-check : call.mode ≡ Check → IsDone call now found out out' err err' → CheckEnds now call.files found accepted out out' err err'
+  done-check e h = subst (λ (m : Mode). OfMode m (RunEnds now call.files call.limit call.summary found accepted out out' err err') (CheckEnds now call.files found accepted out out' err err')
+      (λ text. IsWritten text found out out' err err')) e h
+
+  RunRefuses : Type 0
+  RunRefuses = (end : End RunRefusal) × (end ≢ accepted) × RunEnds now call.files call.limit call.summary found end out out' err err'
+
+  CheckRefuses : Type 0
+  CheckRefuses = (end : End Refusal) × (end ≢ accepted) × CheckEnds now call.files found end out out' err err'
+
+  refused-run : call.mode ≡ Run → IsRefused call now found out out' err err' → RunRefuses
+  refused-run e h = subst (λ (m : Mode). OfMode m RunRefuses CheckRefuses (λ text. ⊥)) e h
+
+  refused-check : call.mode ≡ Check → IsRefused call now found out out' err err' → CheckRefuses
+  refused-check e h = subst (λ (m : Mode). OfMode m RunRefuses CheckRefuses (λ text. ⊥)) e h
+
 -- ---- the status, by that end
 
 -- Of the four statuses that can come, these say so much of a call that is asked for.
@@ -131,15 +154,15 @@ module _ (words : List (List ℕ)) (status : ℕ) (now : Option Files) (found : 
   pub written_alone : reads_files call.mode ≡ false → (status ≡ 0) ⊎ (status ≡ 5)
   written_alone none = by known.known
     where
-      no-refusal : {A B : Type 0} (m : Mode) → reads_files m ≡ false → OfMode m A B (λ text. ⊥) → ⊥
-      no-refusal Run e h = cc e
-      no-refusal Check e h = cc e
-      no-refusal Laws e h = h
-      no-refusal (Gen n) e h = h
+      no-refusal : (A B : Type 0) (m : Mode) → reads_files m ≡ false → OfMode m A B (λ text. ⊥) → ⊥
+      no-refusal A B Run e h = cc e
+      no-refusal A B Check e h = cc e
+      no-refusal A B Laws e h = h
+      no-refusal A B (Gen n) e h = h
 
       by : (status ≡ 0) ⊎ (status ≡ 1) ⊎ (status ≡ 2) ⊎ (status ≡ 5) → (status ≡ 0) ⊎ (status ≡ 5)
       by (inl zero') = inl zero'
-      by (inr (inl one)) = absurd (no-refusal call.mode none (refused one))
+      by (inr (inl one)) = absurd (no-refusal _ _ call.mode none (refused one))
       by (inr (inr (inl two))) = absurd (not-none two)
       by (inr (inr (inr five))) = inr five
 
@@ -147,14 +170,12 @@ module _ (words : List (List ℕ)) (status : ℕ) (now : Option Files) (found : 
     module _ (mode : call.mode ≡ Run) (blocks : List (List Item)) (end : End RunRefusal) (walk : Walks (built_commands call.limit) (joined_text held) blocks end) where
       run-done : (zero' : status ≡ 0) → end ≡ accepted
       run-done zero' =
-          let ends : RunEnds now call.files call.limit call.summary found accepted out out' err err' =
-          subst (λ (m : Mode). OfMode m _ _ _) mode (done zero') in
+          let ends = done-run call now found out out' err err' mode (done zero') in
           sym (run-end old now call.files call.limit call.summary held blocks found end accepted out out' err err' same told has walk ends)
 
       run-refused : (one : status ≡ 1) → end ≢ accepted
       run-refused one =
-          let ends : (last : End RunRefusal) × (last ≢ accepted) × RunEnds now call.files call.limit call.summary found last out out' err err' =
-          subst (λ (m : Mode). OfMode m _ _ _) mode (refused one) in
+          let ends = refused-run call now found out out' err err' mode (refused one) in
           λ all. ends.1 (run-end old now call.files call.limit call.summary held blocks found end ends.0 out out' err err' same told has walk ends.2 ∙ all)
 
       pub runs_all : end ≡ accepted → (status ≡ 0) ⊎ (status ≡ 5)
@@ -178,14 +199,13 @@ module _ (words : List (List ℕ)) (status : ℕ) (now : Option Files) (found : 
     module _ (mode : call.mode ≡ Check) (items : List Item) (end : End Refusal) (walk : Checks (joined_text held) items end) where
       check-done : (zero' : status ≡ 0) → (found ≡ items) × (end ≡ accepted)
       check-done zero' =
-          let ends : CheckEnds now call.files found accepted out out' err err' = subst (λ (m : Mode). OfMode m _ _ _) mode (done zero') in
+          let ends = done-check call now found out out' err err' mode (done zero') in
           let one = check-end old now call.files held items found end accepted out out' err err' same told has walk ends in
           (one.0, sym one.1)
 
       check-refused : (one : status ≡ 1) → (found ≡ items) × (end ≢ accepted)
       check-refused one =
-          let ends : (last : End Refusal) × (last ≢ accepted) × CheckEnds now call.files found last out out' err err' =
-          subst (λ (m : Mode). OfMode m _ _ _) mode (refused one) in
+          let ends = refused-check call now found out out' err err' mode (refused one) in
           let same' = check-end old now call.files held items found end ends.0 out out' err err' same told has walk ends.2 in
           (same'.0, λ all. ends.1 (same'.1 ∙ all))
 

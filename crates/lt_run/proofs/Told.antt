@@ -150,6 +150,11 @@ passed_ends files names n name items out err err' h at none line =
       subst (λ (z : List ℕ). Grew err err' (z ++ codes ": TooLong\n")) file line,
     )
 
+written-none : (b : Bool) (o : Option (List ℕ)) → Grew o o (written_of {R = RunRefusal} b [] too_long)
+unfolding summary_of
+written-none true o = Grew-none o
+written-none false o = Grew-none o
+
 pub run_passed : (files : Option Files) (names : List (List ℕ)) (limit : ℕ) (summary : Bool) (n : ℕ) (name : List ℕ) (items : List Item) (out err err' : Option (List ℕ))
     → IsPassed theory_limit files names n → slice_get names n ≡ Some name → items ≡ [] → Grew err err' (name ++ codes ": TooLong\n")
     → RunEnds files names limit summary items too_long out out err err'
@@ -166,8 +171,3 @@ run_passed files names limit summary n name items out err err' h at none line =
       subst (λ (xs : List Item). Grew out out (written_of {R = RunRefusal} summary xs too_long)) (sym none) (written-none summary out),
       subst (λ (z : List ℕ). Grew err err' (z ++ codes ": TooLong\n")) file line,
     )
-  where
-    written-none : (b : Bool) (o : Option (List ℕ)) → Grew o o (written_of {R = RunRefusal} b [] too_long)
-    unfolding summary_of
-    written-none true o = Grew-none o
-    written-none false o = Grew-none o

@@ -6,6 +6,6 @@ use Rattle.lt_run.proofs.files.join_file.Goals as goal
 
 pub returns-in-Err-clause-too_long : goal.returns-in-Err-clause-too_long
 returns-in-Err-clause-too_long g c = λ long.
-    let room : c.args.most - c.len-room.result ≡ c.args.most - length c.args.joined.text.items = grind (arith, common_steps) in
+    let room : c.args.most - c.len.result ≡ c.args.most - length c.args.joined.text.items = grind (arith, common_steps) in
     let same : c.in-Err.fault ≡ TooLong = cc long in
     passes_by c.args.most _ c.args.name.now c.args.joined _ room c.requires (c.in-Err.ensures.too_long (ap Err same))
