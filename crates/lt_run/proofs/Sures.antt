@@ -117,10 +117,10 @@ module _ (call : Call) (now : Option Files) (found : List Item) (out out' err er
   done-check e h = subst (λ (m : Mode). OfMode m (RunEnds now call.files call.limit call.summary found accepted out out' err err') (CheckEnds now call.files found accepted out out' err err')
       (λ text. IsWritten text found out out' err err')) e h
 
-  RunRefuses : Type 0
+  abbrev RunRefuses : Type 0
   RunRefuses = (end : End RunRefusal) × (end ≢ accepted) × RunEnds now call.files call.limit call.summary found end out out' err err'
 
-  CheckRefuses : Type 0
+  abbrev CheckRefuses : Type 0
   CheckRefuses = (end : End Refusal) × (end ≢ accepted) × CheckEnds now call.files found end out out' err err'
 
   refused-run : call.mode ≡ Run → IsRefused call now found out out' err err' → RunRefuses
