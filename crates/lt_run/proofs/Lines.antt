@@ -1,6 +1,6 @@
 -- The line on a refusal, by its parts.
-use Rattle.std.proofs.Common.{◌≡◌, ◌⊎◌, inl, inr, ℕ, ◌+◌, ◌-◌, ◌<◌, ◌≤◌, true, false, List, [], ◌∷◌, ◌++◌, length, map, slice_get, Option, Some, None, Result, Ok, Err, refl, sym, ◌∙◌, ap, subst, arith, codes}
-use Rattle.std.specs.Prelude.{encode_utf8_all, nat_le, if◌then◌else◌, IfOk}
+use Rattle.std.proofs.Common.{◌≡◌, ◌⊎◌, inl, inr, ℕ, ◌+◌, ◌-◌, ◌<◌, ◌≤◌, true, false, List, [], ◌∷◌, ◌++◌, length, map, slice_get, Option, Some, Result, Ok, Err, refl, sym, ◌∙◌, ap, arith, codes}
+use Rattle.std.specs.Prelude.{encode_utf8_all, nat_le, IfOk}
 use Rattle.std.specs.Fmt.{decimal}
 use Rattle.std.proofs.lemmas.Bool.Decides.{leb_tells}
 use Rattle.lt_definitions.specs.Types.{Chars}

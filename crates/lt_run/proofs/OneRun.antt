@@ -1,5 +1,5 @@
 -- A walk through a text has one end, that of `run` too.
-use Rattle.std.proofs.Common.{◌≡◌, inl, inr, ℕ, ◌<◌, ◌≤◌, true, false, List, [], ◌∷◌, length, Result, Ok, Err, sym, ◌∙◌, ap, subst, arith, refl}
+use Rattle.std.proofs.Common.{◌≡◌, inl, inr, ℕ, ◌<◌, ◌≤◌, true, false, List, [], ◌∷◌, length, Ok, Err, sym, ◌∙◌, ap, subst, arith, refl}
 use Rattle.lt_definitions.specs.Items.{Item}
 use Rattle.lt_texts.specs.Texts.{Left, left_of}
 use Rattle.lt_texts.specs.Commands.{Command}
@@ -8,7 +8,6 @@ use Rattle.lt_grammar.proofs.Alone.{header_no_fault, one_header, one_header_faul
 use Rattle.lt_grammar.proofs.FirstWrong.{one_fault, fault_no_command, fault_no_end, command_no_end}
 use Rattle.lt_grammar.proofs.Placed.{placed_is_next, one_placed}
 use Rattle.lt_texts.specs.CommandPlaces.{NextPlaced}
-use Rattle.lt_transport_definitions.specs.Commands.{CommandRefusal}
 use Rattle.lt_transport_definitions.specs.Sessions.{Session}
 use Rattle.lt_transport_laws.specs.KeptStatements.{IsKeptSession}
 use Rattle.lt_transport_laws.proofs.KeptSessions.{new-kept, stay-kept, kept-scoped}

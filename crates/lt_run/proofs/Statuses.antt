@@ -1,5 +1,5 @@
 -- What a status says of a joined text.
-use Rattle.std.proofs.Common.{◌≡◌, ◌≢◌, ◌⊎◌, inl, inr, ℕ, ◌≤◌, List, [], ◌∷◌, ◌++◌, Bool, Option, Result, Ok, Err, refl, sym, ◌∙◌, ap, subst, arith, append-nil}
+use Rattle.std.proofs.Common.{◌≡◌, ◌≢◌, ◌⊎◌, inl, inr, ℕ, List, [], Bool, Option, Result, Ok, Err, refl, sym, ◌∙◌, ap, subst, arith, append-nil}
 use Rattle.std.specs.Prelude.{true, false, codes, encode_utf8_all, IsErrOf}
 use Rattle.std.specs.List.{flat_map}
 use Rattle.std.proofs.lemmas.Str.{encodes-append}
@@ -27,7 +27,7 @@ use Rattle.lt_run.specs.Joining.{IsJoinedOf}
 use Rattle.lt_run.specs.Places.{AreNames, placed_line}
 use Rattle.lt_run.specs.Walked.{IsCut, IsEnd, IsWalked}
 use Rattle.lt_run.specs.Endings.{IsTold, TellsWalk}
-use Rattle.lt_run.specs.Runs.{IsRunTold, run_line}
+use Rattle.lt_run.specs.Runs.{IsRunTold}
 use Rattle.lt_run.proofs.Lines.{line_told, run_told}
 
 -- ---- by how a walk went, in any mode

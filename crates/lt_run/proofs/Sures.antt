@@ -1,5 +1,5 @@
 -- What comes of a call over what never fails.
-use Rattle.std.proofs.Common.{◌≡◌, ◌≢◌, ◌⊎◌, inl, inr, ℕ, ◌+◌, ◌<◌, ◌≤◌, Bool, true, false, List, [], ◌∷◌, ◌++◌, length, Option, Some, None, refl, sym, ◌∙◌, ap, subst, arith, length-append, append-nil}
+use Rattle.std.proofs.Common.{◌≡◌, ◌≢◌, ◌⊎◌, inl, inr, ℕ, ◌+◌, ◌<◌, Bool, false, List, [], ◌∷◌, ◌++◌, length, Option, Some, None, refl, sym, ◌∙◌, ap, subst, arith, length-append, append-nil}
 use Rattle.std.specs.Prelude.{IsSome}
 use Rattle.lt_definitions.specs.Items.{Item}
 use Rattle.lt_definitions.specs.Theory.{Refusal}
@@ -8,7 +8,7 @@ use Rattle.lt_texts.specs.Walks.{plain_limit}
 use Rattle.lt_io.specs.Files.{Files, StaysSame}
 use Rattle.lt_walks.specs.Walks.{End, accepted, too_long, Walks}
 use Rattle.lt_walks.specs.PlainWalks.{Checks}
-use Rattle.lt_walks.specs.Calls.{AreNamed, AreRead, CheckEnds}
+use Rattle.lt_walks.specs.Calls.{AreNamed, CheckEnds}
 use Rattle.lt_walks.proofs.PlainWalkLemmas.{check_too_long, one_check}
 use Rattle.lt_words.specs.declared.mode.Mode.{Mode}
 use Rattle.lt_words.specs.declared.mode.Mode.TheVariants.{Run, Check, Laws, Gen}
@@ -140,7 +140,6 @@ pub record IsKnown (words : List (List ℕ)) (status : ℕ) (now : Option Files)
 
 module _ (words : List (List ℕ)) (status : ℕ) (now : Option Files) (found : List Item) (out out' err err' : Option (List ℕ)) (known : IsKnown words status now found out out' err err')
     (call : Call) (asked : call_of words ≡ Some call) where
-
   not-none : status ≡ 2 → ⊥
   not-none two = let apart : None ≡ Some call = sym (known.none two) ∙ asked in cc apart
 

@@ -1,5 +1,5 @@
 -- What comes of the named files' text, by what was told of it.
-use Rattle.std.proofs.Common.{◌≡◌, ◌≢◌, ◌⊎◌, inl, inr, ℕ, ◌<◌, ◌≤◌, Bool, true, false, List, [], ◌∷◌, ◌++◌, length, Option, Some, None, refl, sym, ◌∙◌, ap, subst, arith, append-nil, codes}
+use Rattle.std.proofs.Common.{◌≡◌, ◌⊎◌, inl, inr, ℕ, ◌<◌, Bool, true, false, List, [], ◌∷◌, ◌++◌, length, Option, Some, refl, sym, ◌∙◌, subst, arith, append-nil, codes}
 use Rattle.std.specs.Prelude.{slice_get, encode_utf8_all}
 use Rattle.lt_definitions.specs.Items.{Item, Context, empty, with_item}
 use Rattle.lt_definitions.specs.Theory.{Refusal, AreValid, IsPlainTheory}
@@ -8,13 +8,13 @@ use Rattle.lt_texts.specs.Files.{File, joined_text, first_past}
 use Rattle.lt_texts.specs.Walks.{plain_limit}
 use Rattle.lt_io.specs.Causes.{Rose}
 use Rattle.lt_io.specs.Files.{Files}
-use Rattle.lt_io.specs.Written.{Grew, GrewByFront}
-use Rattle.lt_walks.specs.Walks.{End, accepted, too_long, Walks}
+use Rattle.lt_io.specs.Written.{Grew}
+use Rattle.lt_walks.specs.Walks.{End, too_long, Walks}
 use Rattle.lt_walks.specs.PlainWalks.{Checks}
 use Rattle.lt_walks.specs.Outputs.{summary_of, check_line}
 use Rattle.lt_walks.specs.Calls.{AreNamed, AreRead, CheckEnds, CheckStops}
 use Rattle.lt_walks.proofs.PlainWalkLemmas.{check_within, check_too_long, texts_accept}
-use Rattle.lt_transport_definitions.specs.TheoryWalks.{theory_limit, items_of_blocks}
+use Rattle.lt_transport_definitions.specs.TheoryWalks.{theory_limit}
 use Rattle.lt_transport_definitions.specs.Reports.{written_of}
 use Rattle.lt_session.specs.Walks.{RunRefusal, built_commands}
 use Rattle.lt_session.specs.Running.{IsEnd as IsRunEnd, IsCut as IsRunCut}
@@ -22,8 +22,8 @@ use Rattle.lt_session.proofs.Fronts.{Grew-none}
 use Rattle.lt_run.specs.declared.files.Joined.{Joined}
 use Rattle.lt_run.specs.declared.files.Unjoined.{Unjoined}
 use Rattle.lt_run.specs.declared.files.Unjoined.TheVariants as unjoined
-use Rattle.lt_run.specs.Joining.{AreReadWithin, IsJoinedOf, AreJoined, IsPassed, FailsToJoin}
-use Rattle.lt_run.specs.Places.{AreNames, IsJoinedOfSome}
+use Rattle.lt_run.specs.Joining.{AreReadWithin, AreJoined, IsPassed, FailsToJoin}
+use Rattle.lt_run.specs.Places.{IsJoinedOfSome}
 use Rattle.lt_run.specs.Walked.{IsCut, IsEnd}
 use Rattle.lt_run.specs.Endings.{IsTold, IsAmong}
 use Rattle.lt_run.specs.Runs.{IsRunTold, RunEnds, RunStops}

@@ -1,5 +1,5 @@
 -- A walk that writes, on its way: its begin, its next item, and each way in which it stops.
-use Rattle.std.proofs.Common.{◌≡◌, ◌≢◌, ◌⊎◌, inl, inr, ℕ, ◌-◌, List, [], ◌∷◌, ◌++◌, length, map, slice_get, length-append, arith, Option, Some, None, Result, Ok, Err, refl, sym, ◌∙◌, ap, subst, append-nil}
+use Rattle.std.proofs.Common.{◌≡◌, ◌⊎◌, inl, inr, ℕ, ◌-◌, List, [], ◌∷◌, ◌++◌, length, slice_get, length-append, arith, Option, Some, None, Result, Ok, Err, refl, sym, ◌∙◌, ap, subst, append-nil}
 use Rattle.std.specs.Prelude.{encode_utf8_all, OnOk, OnErr}
 use Rattle.std.proofs.lemmas.List.{map-append}
 use Rattle.lt_definitions.specs.Items as theory
@@ -27,7 +27,7 @@ use Rattle.lt_session.specs.declared.running.Stop.{Stop}
 use Rattle.lt_session.specs.declared.running.Stop.TheVariants as stops
 use Rattle.lt_session.specs.Running.{IsNoRefusal, IsStop}
 use Rattle.lt_run.specs.Walked.{IsCut, IsEnd, IsWalked}
-use Rattle.lt_session.proofs.Fronts.{Grew-none, Grew-after_none, front_all, front_behind, front_none}
+use Rattle.lt_session.proofs.Fronts.{Grew-none, front_all, front_behind, front_none}
 use Rattle.lt_run.proofs.Summaries.{lines_of, lines_more, summary_accepted, summary_refused, IsNotAccepted, front_of_lines}
 
 -- These items were accepted, what is left of the text is this, and their lines were written.

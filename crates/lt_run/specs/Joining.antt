@@ -1,5 +1,5 @@
 -- Files joined to one text.
-use Rattle.std.specs.Prelude.{◌≡◌, ◌⊎◌, ℕ, ◌+◌, ◌<◌, ◌≤◌, List, [], ◌∷◌, ◌++◌, Option, Some, None, IfSome, IsSome, length, map, slice_get}
+use Rattle.std.specs.Prelude.{◌≡◌, ◌⊎◌, ℕ, ◌+◌, ◌<◌, ◌≤◌, List, [], ◌∷◌, ◌++◌, Option, Some, IfSome, IsSome, length, map, slice_get}
 use Rattle.lt_texts.specs.Files.{File, joined_text, first_past}
 use Rattle.lt_io.specs.Causes.{Rose}
 use Rattle.lt_io.specs.Files.{Files}

@@ -53,7 +53,15 @@ pub(crate) fn do_asked<L: Library, O: Sink, E: Sink>(
         × (E.faults err.old ≤ E.faults err.new) }
 {
     match words.mode {
-        Mode::Run => run_files(alloc, &words.files, words.limit, words.summary, lib, out, err),
+        Mode::Run => run_files(
+            alloc,
+            &words.files,
+            words.limit,
+            words.summary,
+            lib,
+            out,
+            err,
+        ),
         Mode::Check => check_files(alloc, &words.files, lib, out, err),
         Mode::Laws => without_items(alloc, write_laws(alloc, out)),
         Mode::Gen(n) => without_items(alloc, write_generated(alloc, n, out)),

@@ -2,7 +2,7 @@
 use Rattle.std.proofs.Common.{rules, ◌≡◌, ◌⊎◌, refl}
 use Rattle.lt_extend.specs.Theories.{items_of}
 use Rattle.lt_walks.specs.Walks.{accepted}
-use Rattle.lt_run.proofs.Sures.{IsKnown, two_alone, written_alone, runs_all, runs_stop, accepts_all, refuses_wrong}
+use Rattle.lt_run.proofs.Sures.{two_alone, written_alone, runs_all, runs_stop, accepts_all, refuses_wrong}
 use Rattle.lt_run.proofs.sure.lt_sure.Goals as goal
 
 pub returns-clause-other : goal.returns-clause-other
