@@ -1,13 +1,13 @@
 //! Why a text, or a command of it, is refused.
 use lt_hol::{Property, PropertyPart, QuotientPart, Reason, RelatorPart, RulePart};
-use lt_terms::Term;
-use lt_types::{List, Name, Ty};
+use lt_terms::{Term, Terms};
+use lt_types::{Name, Ty};
 
 /// A sequent as terms: its hypotheses and its conclusion.
 #[derive(Debug, Drop)]
 pub struct SequentTerms {
-    pub hypotheses: List<Term>,
-    pub conclusion: Term,
+    pub hyps: Terms,
+    pub concl: Term,
 }
 
 /// What keeps a quotient from being parametric: a type at which no equality is, or the name of a
@@ -103,6 +103,8 @@ pub enum Refusal {
     SearchLimit(u64),
     /// How many steps the reduction made.
     NormLimit(u64),
+    /// A command of the table that isn't built yet.
+    NotBuilt,
     /// Memory ran out.
     Memory,
 }

@@ -13,10 +13,9 @@ use Rattle.lt_nameless.proofs.Alphas.{alpha_is_nameless}
 use Rattle.lt_nameless.proofs.PrintingLemmas.{alpha_prints_alike}
 use Rattle.lt_texts.specs.WrongPlaces.{Wrong, bad_header, bad_command, bad_syntax, bad_byte, bad_char}
 use Rattle.lt_walks.specs.RefusalTexts.{fault_words, last_sequent, refusal_words, printed_refusal, wrong_word}
-use Rattle.lt_conditions.specs.declared.item_fault.TermSequent.{TermSequent}
-use Rattle.lt_conditions.specs.Refusing.{shown}
-use Rattle.lt_plain.specs.declared.refusal.Refusal.{Refusal}
-use Rattle.lt_plain.specs.Telling.{as_placed, as_refusal, Tells}
+use Rattle.lt_commands.specs.declared.refusal.SequentTerms.{SequentTerms}
+use Rattle.lt_commands.specs.declared.refusal.Refusal.{Refusal}
+use Rattle.lt_plain.specs.Telling.{as_placed, as_refusal, shown, Tells}
 use Rattle.lt_plain.specs.Showing.{shown_last, shown_words}
 
 print-term : (s t : TermTree) → nameless [] s ≡ nameless [] t → printed_term [] s ≡ printed_term [] t
@@ -40,7 +39,7 @@ print-sequent : (s u : Sequent) → nameless_sequent s ≡ nameless_sequent u �
 print-sequent s u e =
     λ i. print-hyps s.hyps u.hyps (ap (λ (n : NamelessSequent). n.hyps) e) i ++ (codes "|- " ++ print-term s.concl u.concl (ap (λ (n : NamelessSequent). n.concl) e) i)
 
-print-last : (s : Option Sequent) (last : Option TermSequent) → option_map nameless_sequent s ≡ option_map shown last → last_sequent s ≡ shown_last last
+print-last : (s : Option Sequent) (last : Option SequentTerms) → option_map nameless_sequent s ≡ option_map shown last → last_sequent s ≡ shown_last last
 print-last None None e = refl
 print-last None (Some u) e = absurd (cc e)
 print-last (Some s) None e = absurd (cc e)

@@ -26,8 +26,8 @@ use Rattle.lt_walks.specs.Walks.{End, accepted, unread, refused, wrong_header, E
 use Rattle.lt_walks.specs.PlainWalks.{plain_items, line_of, RefusesItem as Refused, ChecksText}
 use Rattle.lt_walks.proofs.OnTheWay.{ComesTo, begun, goes_on, ends, header_ends, has_end}
 use Rattle.lt_walks.proofs.PlainWalkLemmas.{accepted_text, texts_accept, each_text_check}
-use Rattle.lt_plain.specs.declared.refusal.Refusal.TheVariants.{Memory}
-use Rattle.lt_plain.specs.declared.refusal.Placed.{Placed}
+use Rattle.lt_commands.specs.declared.refusal.Refusal.TheVariants.{Memory}
+use Rattle.lt_commands.specs.declared.refusal.Placed.{Placed}
 use Rattle.lt_plain.specs.Telling.{as_placed, Tells, TellsEnd, IsChecked}
 use Rattle.lt_plain.specs.Placing.{IsPlacedError}
 use Rattle.lt_plain.specs.Stepping as steps

@@ -1,11 +1,17 @@
 -- Faults of items as refusals.
-use Rattle.std.specs.Prelude.{ℕ, Option, Some, None}
+use Rattle.std.specs.Prelude.{ℕ, Option, Some, None, option_map}
 use Rattle.lt_hol.specs.declared.type_fault.TypeFault.{TypeFault}
 use Rattle.lt_hol.specs.declared.type_fault.TypeFault.TheVariants as types
 use Rattle.lt_conditions.specs.declared.item_fault.ItemFault.{ItemFault}
 use Rattle.lt_conditions.specs.declared.item_fault.ItemFault.TheVariants as items
-use Rattle.lt_plain.specs.declared.refusal.Refusal.{Refusal}
-use Rattle.lt_plain.specs.declared.refusal.Refusal.TheVariants.{Duplicate, UnknownType, Arity, UnknownConst, TypeArgs, Unbound, Mismatch, NotBool, UnknownLabel, OpenTerm, LooseTypeVar, TypedefShape, BadLine, NotProved, Memory}
+use Rattle.lt_conditions.specs.declared.item_fault.TermSequent.{TermSequent}
+use Rattle.lt_commands.specs.declared.refusal.SequentTerms.{SequentTerms}
+use Rattle.lt_commands.specs.declared.refusal.Refusal.{Refusal}
+use Rattle.lt_commands.specs.declared.refusal.Refusal.TheVariants.{Duplicate, UnknownType, Arity, UnknownConst, TypeArgs, Unbound, Mismatch, NotBool, UnknownLabel, OpenTerm, LooseTypeVar, TypedefShape, BadLine, NotProved, Memory}
+
+-- a sequent of a theory as a refusal keeps it
+abbrev pub as_terms : TermSequent → SequentTerms
+as_terms s = record { hyps = s.hyps; concl = s.concl }
 
 -- a fault of a type or a term
 abbrev pub flat_type : TypeFault → Refusal
@@ -34,7 +40,7 @@ flat (items.LooseTypeVar a) = LooseTypeVar a
 flat items.TypedefShape = TypedefShape
 flat (items.InLine n f) = flat_type f
 flat (items.BadLine n r) = BadLine n r
-flat (items.NotProved last) = NotProved last
+flat (items.NotProved last) = NotProved (option_map as_terms last)
 flat items.Memory = Memory
 
 -- the number of the lemma's line in which it stands

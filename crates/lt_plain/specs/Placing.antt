@@ -3,8 +3,8 @@ use Rattle.std.specs.Prelude.{◌≡◌}
 use Rattle.lt_script.specs.declared.read_error.ReadError.{ReadError}
 use Rattle.lt_script.specs.declared.read_error.ReadError.TheVariants.{BadHeader, BadCommand, Syntax, BadByte, BadChar, Memory as NoMemory}
 use Rattle.lt_script.specs.Promises.{as_wrong}
-use Rattle.lt_plain.specs.declared.refusal.Refusal.TheVariants.{Memory}
-use Rattle.lt_plain.specs.declared.refusal.Placed.{Placed}
+use Rattle.lt_commands.specs.declared.refusal.Refusal.TheVariants.{Memory}
+use Rattle.lt_commands.specs.declared.refusal.Placed.{Placed}
 use Rattle.lt_plain.specs.Telling.{as_placed}
 
 -- want of memory, or what is wrong at its place

@@ -6,10 +6,11 @@ use Rattle.lt_definitions.specs.Theory.{refusal}
 use Rattle.lt_hol.specs.declared.item.Item.{Item}
 use Rattle.lt_hol.specs.Items.{item_of}
 use Rattle.lt_texts.specs.Texts.{Left, left_of}
-use Rattle.lt_texts.specs.Commands.{item_command}
+use Rattle.lt_texts.specs.Commands.{Command, item_command}
 use Rattle.lt_texts.specs.Forms.{plain_text}
 use Rattle.lt_texts.specs.WrongPlaces.{Wrong, AtEnd, HeaderFailsAt}
 use Rattle.lt_texts.specs.CommandPlaces.{NextPlaced}
+use Rattle.lt_commands.specs.declared.command.Command.{Command as CommandData}
 use Rattle.lt_commands.specs.Views.{command_of}
 use Rattle.lt_script.specs.Scripts.{Begun}
 use Rattle.lt_script.specs.declared.spanned.Spanned.{Spanned}
@@ -18,8 +19,8 @@ use Rattle.lt_conditions.specs.Refusing.{Refuses}
 use Rattle.lt_extend.specs.Theories.{Holding, context_behind, IsInStep}
 use Rattle.lt_walks.specs.Walks.{End, EndsThere, place_of}
 use Rattle.lt_walks.specs.PlainWalks.{plain_items, line_of}
-use Rattle.lt_plain.specs.declared.refusal.Refusal.TheVariants.{Memory}
-use Rattle.lt_plain.specs.declared.refusal.Placed.{Placed}
+use Rattle.lt_commands.specs.declared.refusal.Refusal.TheVariants.{Memory}
+use Rattle.lt_commands.specs.declared.refusal.Placed.{Placed}
 use Rattle.lt_plain.specs.Telling.{as_placed, Tells, TellsEnd}
 
 -- The header of plain texts was read.
@@ -34,6 +35,16 @@ AddsOrNot old item new (Ok _) = (refusal (context_behind old.items) (item_of ite
     × (new.items ≡ old.items ++ item ∷ [])
 AddsOrNot old item new (Err e) =
     Refuses (refusal (context_behind old.items) (item_of item)) e × (new.items ≡ old.items)
+
+-- whether a command adds an item alone
+abbrev pub is_item : Command → Bool
+is_item (item_command i) = true
+is_item _ = false
+
+-- The command adds this item; or it is another one, which stays as it is.
+abbrev pub IsItemOr : CommandData → Result Item CommandData → Type 0
+IsItemOr c (Ok item) = command_of c ≡ item_command (item_of item)
+IsItemOr c (Err d) = (d ≡ c) × (is_item (command_of c) ≡ false)
 
 -- What is told is what is wrong with the header with which the text is to begin; want of memory is
 -- free.

@@ -4,18 +4,17 @@ use Rattle.lt_definitions.specs.Typing.{Fault, unknown_type, arity, unknown_cons
 use Rattle.lt_definitions.specs.Items as theory
 use Rattle.lt_definitions.specs.Theory as refusals
 use Rattle.lt_definitions.specs.Theory.{at_fault, not_boolean, unknown_statement, duplicate, open_term, loose_type_var, typedef_shape, in_line, bad_line, not_proved, IsPlainTheory}
-use Rattle.lt_nameless.specs.Nameless.{nameless_sequent}
+use Rattle.lt_nameless.specs.Nameless.{NamelessSequent, nameless_sequent}
 use Rattle.lt_hol.specs.declared.item.Item.{Item}
 use Rattle.lt_texts.specs.Forms.{HasPlainItems}
 use Rattle.lt_texts.specs.WrongPlaces.{Wrong, bad_header, bad_command, bad_syntax, bad_byte, bad_char}
-use Rattle.lt_conditions.specs.declared.item_fault.TermSequent.{TermSequent}
-use Rattle.lt_conditions.specs.Refusing.{shown}
 use Rattle.lt_extend.specs.Theories.{items_of}
 use Rattle.lt_walks.specs.Walks.{End, accepted, too_long, wrong_header, unread, refused}
 use Rattle.lt_walks.specs.PlainWalks.{ChecksText}
-use Rattle.lt_plain.specs.declared.refusal.Refusal.{Refusal}
-use Rattle.lt_plain.specs.declared.refusal.Refusal.TheVariants.{BadByte, BadChar, Syntax, BadHeader, BadCommand, Duplicate, UnknownType, Arity, UnknownConst, TypeArgs, Unbound, Mismatch, NotBool, UnknownLabel, OpenTerm, LooseTypeVar, TypedefShape, BadLine, NotProved, Memory}
-use Rattle.lt_plain.specs.declared.refusal.Placed.{Placed}
+use Rattle.lt_commands.specs.declared.refusal.SequentTerms.{SequentTerms}
+use Rattle.lt_commands.specs.declared.refusal.Refusal.{Refusal}
+use Rattle.lt_commands.specs.declared.refusal.Refusal.TheVariants.{BadByte, BadChar, Syntax, BadHeader, BadCommand, Duplicate, UnknownType, Arity, UnknownConst, TypeArgs, Unbound, Mismatch, NotBool, UnknownLabel, OpenTerm, LooseTypeVar, TypedefShape, BadLine, NotProved, Memory}
+use Rattle.lt_commands.specs.declared.refusal.Placed.{Placed}
 
 -- what is wrong in a text, and its place
 abbrev pub as_placed : Wrong → Placed
@@ -34,6 +33,10 @@ as_refusal (type_args c) = TypeArgs c
 as_refusal (unbound x) = Unbound x
 as_refusal (mismatch f t) = Mismatch f t
 
+-- a sequent of terms, without binder names
+abbrev pub shown : SequentTerms → NamelessSequent
+shown s = nameless_sequent (record { hyps = s.hyps; concl = s.concl })
+
 -- The answer is this refusal of an item, with its values; a sequent up to the names of binders.
 abbrev pub Tells : refusals.Refusal → Refusal → Type 0
 Tells (at_fault f) x = x ≡ as_refusal f
@@ -45,7 +48,7 @@ Tells (loose_type_var a) x = x ≡ LooseTypeVar a
 Tells typedef_shape x = x ≡ TypedefShape
 Tells (in_line n f) x = x ≡ as_refusal f
 Tells (bad_line n r) x = x ≡ BadLine n r
-Tells (not_proved s) x = (last : Option TermSequent) × (x ≡ NotProved last)
+Tells (not_proved s) x = (last : Option SequentTerms) × (x ≡ NotProved last)
     × (option_map nameless_sequent s ≡ option_map shown last)
 
 -- The answer tells how a walk ends before the text does, and the place.

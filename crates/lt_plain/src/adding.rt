@@ -5,7 +5,7 @@ ghost use Rattle.lt_texts.specs.Commands.{item_command};
 ghost use Rattle.lt_texts.specs.Forms.{plain_text, a_command, IsAllowed};
 ghost use Rattle.lt_commands.specs.Views.{command_of};
 ghost use Rattle.lt_extend.specs.Theories.{IsInStep};
-ghost use Rattle.lt_plain.specs.Stepping.{AddsOrNot};
+ghost use Rattle.lt_plain.specs.Stepping.{AddsOrNot, IsItemOr};
 
 use lt_commands::Command;
 use lt_extend::{ItemFault, Theory};
@@ -14,7 +14,7 @@ use lt_store::TermStore;
 use std::alloc::Global;
 
 /// Adds an item where it is valid over those before it, and else answers its first refusal.
-pub(crate) fn add_item<S: TermStore>(
+pub fn add_item<S: TermStore>(
     alloc: Global,
     th: &mut Theory<S>,
     item: Item,
@@ -35,20 +35,30 @@ pub(crate) fn add_item<S: TermStore>(
     }
 }
 
+/// The item that a command adds, or else the command.
+pub fn item_or_command(command: Command) -> Result<Item, Command>
+    ensures { IsItemOr command result }
+{
+    match command {
+        Command::TypeDecl(name, arity) => Ok(Item::TypeDecl(name, arity)),
+        Command::ConstDecl(name, ty) => Ok(Item::ConstDecl(name, ty)),
+        Command::Axiom(label, statement) => Ok(Item::Axiom(label, statement)),
+        Command::Def(name, ty, body) => Ok(Item::Def(name, ty, body)),
+        Command::Typedef(name, params, predicate, by, abs, rep) => {
+            Ok(Item::Typedef(name, params, predicate, by, abs, rep))
+        }
+        Command::Lemma(label, statement, lines) => Ok(Item::Lemma(label, statement, lines)),
+        other => Err(other),
+    }
+}
+
 /// A command that may stand in a plain text, as an item.
 pub(crate) fn item_from(command: Command) -> Item
     requires { IsAllowed plain_text (a_command (command_of command)) }
     ensures { command_of command ≡ item_command (item_of result) }
 {
-    match command {
-        Command::TypeDecl(name, arity) => Item::TypeDecl(name, arity),
-        Command::ConstDecl(name, ty) => Item::ConstDecl(name, ty),
-        Command::Axiom(label, statement) => Item::Axiom(label, statement),
-        Command::Def(name, ty, body) => Item::Def(name, ty, body),
-        Command::Typedef(name, params, predicate, by, abs, rep) => {
-            Item::Typedef(name, params, predicate, by, abs, rep)
-        }
-        Command::Lemma(label, statement, lines) => Item::Lemma(label, statement, lines),
-        _ => unreachable!(),
+    match item_or_command(command) {
+        Ok(item) => item,
+        Err(_) => unreachable!(),
     }
 }

@@ -11,7 +11,7 @@ ghost use Rattle.lt_plain.specs.Telling.{IsChecked};
 
 use crate::adding::{add_item, item_from};
 use crate::placing::{of_item_fault, of_read_error};
-use crate::refusal::Placed;
+use lt_commands::Placed;
 use lt_extend::Theory;
 use lt_script::{Script, Spanned};
 use lt_store::TermStore;

@@ -1,13 +1,13 @@
 //! Faults of items as refusals.
-ghost use Rattle.std.specs.Prelude.{◌≡◌};
-ghost use Rattle.lt_plain.specs.Flattening.{flat, flat_type, line_in};
+ghost use Rattle.std.specs.Prelude.{◌≡◌, option_map};
+ghost use Rattle.lt_plain.specs.Flattening.{as_terms, flat, flat_type, line_in};
 
-use crate::refusal::Refusal;
-use lt_extend::ItemFault;
+use lt_commands::{Refusal, SequentTerms};
+use lt_extend::{ItemFault, TermSequent};
 use lt_hol::TypeFault;
 
 /// A fault of an item as a refusal; that in which line of a lemma it stands is left out.
-pub(crate) fn of_fault(fault: ItemFault) -> Refusal
+pub fn of_fault(fault: ItemFault) -> Refusal
     ensures { result ≡ flat fault }
 {
     match fault {
@@ -25,8 +25,18 @@ pub(crate) fn of_fault(fault: ItemFault) -> Refusal
         ItemFault::TypedefShape => Refusal::TypedefShape,
         ItemFault::InLine(_, fault) => of_type_fault(fault),
         ItemFault::BadLine(number, reason) => Refusal::BadLine(number, reason),
-        ItemFault::NotProved(last) => Refusal::NotProved(last),
+        ItemFault::NotProved(last) => Refusal::NotProved(last_terms(last)),
         ItemFault::Memory => Refusal::Memory,
+    }
+}
+
+/// The last sequent of a theory's lemma as a refusal keeps it.
+fn last_terms(last: Option<TermSequent>) -> Option<SequentTerms>
+    ensures { result ≡ option_map as_terms last }
+{
+    match last {
+        Some(TermSequent { hyps, concl }) => Some(SequentTerms { hyps, concl }),
+        None => None,
     }
 }
 
@@ -47,7 +57,7 @@ fn of_type_fault(fault: TypeFault) -> Refusal
 }
 
 /// The number of the lemma's line in which a fault stands.
-pub(crate) fn line_of(fault: &ItemFault) -> Option<usize>
+pub fn line_of(fault: &ItemFault) -> Option<usize>
     ensures { result ≡ line_in fault.now }
 {
     match fault {

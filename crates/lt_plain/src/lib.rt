@@ -7,11 +7,12 @@ mod flattening;
 pub mod laws;
 mod placing;
 mod printing;
-mod refusal;
 
+pub use adding::{add_item, item_or_command};
 pub use checking::{check_plain, next_item, open_plain};
-pub use lt_extend::TermSequent;
+pub use flattening::{line_of, of_fault};
+pub use lt_commands::{Placed, Refusal, SequentTerms};
 pub use lt_script::Script;
 pub use lt_syntax::{summary_line, write_item};
+pub use placing::{of_read_error, place_in};
 pub use printing::print_refusal;
-pub use refusal::{Placed, Refusal};

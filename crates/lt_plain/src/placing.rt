@@ -9,12 +9,12 @@ ghost use Rattle.lt_plain.specs.Telling.{as_placed};
 ghost use Rattle.lt_plain.specs.Placing.{IsPlacedError};
 
 use crate::flattening::{line_of, of_fault};
-use crate::refusal::{Placed, Refusal};
+use lt_commands::{Placed, Refusal};
 use lt_extend::ItemFault;
 use lt_script::{Places, ReadError};
 
 /// What kept a text from being read on, with its place.
-pub(crate) fn of_read_error(error: ReadError) -> Placed
+pub fn of_read_error(error: ReadError) -> Placed
     ensures { IsPlacedError error result }
 {
     match error {
@@ -37,7 +37,7 @@ pub(crate) fn of_item_fault(fault: ItemFault, from: usize, lines: &Places) -> Pl
 }
 
 /// The place of a line's first token, where there is such a line, and else that of the command's.
-fn place_in(from: usize, lines: &Places, line: Option<usize>) -> usize
+pub fn place_in(from: usize, lines: &Places, line: Option<usize>) -> usize
     ensures { result ≡ place_of from lines.now line }
 {
     match line {

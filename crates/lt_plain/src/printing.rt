@@ -1,15 +1,16 @@
 //! Refusals as text.
 ghost use Rattle.std.specs.Prelude.{◌≡◌, ◌++◌, ◌∷◌, [], codes, true, string_bytes, IfOk, OnOk, encode_utf8_all};
 ghost use Rattle.std.specs.Fmt.{decimal};
-ghost use Rattle.lt_definitions.specs.Printing.{words, printed_type};
+ghost use Rattle.lt_definitions.specs.Printing.{words, printed_type, printed_term};
 ghost use Rattle.lt_walks.specs.RefusalTexts.{reason_word};
 ghost use Rattle.lt_syntax.specs.Signs.{are_ascii};
-ghost use Rattle.lt_plain.specs.Showing.{shown_words, shown_last};
+ghost use Rattle.lt_plain.specs.Showing.{shown_words, shown_last, relator_part, property_part, rule_part, quotient_part, property_word};
 
-use crate::refusal::Refusal;
-use lt_extend::TermSequent;
-use lt_hol::{Memory, Name, Reason, Ty};
-use lt_syntax::{Text, write_sequent, write_type};
+use lt_commands::{NotParametric, Refusal, SequentTerms};
+use lt_hol::{
+    Memory, Name, Property, PropertyPart, QuotientPart, Reason, RelatorPart, RulePart, Term, Ty,
+};
+use lt_syntax::{Text, write_sequent, write_term, write_type};
 use std::alloc::Global;
 
 /// A refusal as text: its name, then what is told of it, each behind a space.
@@ -29,6 +30,7 @@ fn write_refusal(alloc: Global, text: &mut Text, refusal: &Refusal) -> Result<()
     ensures { OnOk result (text.new ≡ text.old ++ words (shown_words refusal.now)) }
 {
     match refusal {
+        Refusal::TooLong => Ok(text.signs("TooLong")?),
         Refusal::BadByte => Ok(text.signs("BadByte")?),
         Refusal::BadChar => Ok(text.signs("BadChar")?),
         Refusal::Syntax => Ok(text.signs("Syntax")?),
@@ -40,14 +42,43 @@ fn write_refusal(alloc: Global, text: &mut Text, refusal: &Refusal) -> Result<()
         Refusal::UnknownConst(name) => Ok(write_named(text, "UnknownConst", name)?),
         Refusal::TypeArgs(name) => Ok(write_named(text, "TypeArgs", name)?),
         Refusal::Unbound(name) => Ok(write_named(text, "Unbound", name)?),
-        Refusal::Mismatch(one, other) => Ok(write_mismatch(alloc, text, one, other)?),
-        Refusal::NotBool(ty) => Ok(write_not_bool(alloc, text, ty)?),
         Refusal::UnknownLabel(label) => Ok(write_named(text, "UnknownLabel", label)?),
-        Refusal::OpenTerm => Ok(text.signs("OpenTerm")?),
+        Refusal::UnknownLaw(law) => Ok(write_named(text, "UnknownLaw", law)?),
+        Refusal::LawDiffers(law) => Ok(write_named(text, "LawDiffers", law)?),
+        Refusal::MissingLaw(law) => Ok(write_named(text, "MissingLaw", law)?),
+        Refusal::DuplicateDomain(head) => Ok(write_named(text, "DuplicateDomain", head)?),
         Refusal::LooseTypeVar(name) => Ok(write_variable(text, name)?),
-        Refusal::TypedefShape => Ok(text.signs("TypedefShape")?),
+        Refusal::NotBool(ty) => Ok(write_typed(alloc, text, "NotBool", ty)?),
+        Refusal::Mismatch(one, other) => Ok(write_pair(alloc, text, "Mismatch", one, other)?),
         Refusal::BadLine(number, reason) => Ok(write_bad_line(text, *number, *reason)?),
         Refusal::NotProved(last) => Ok(write_not_proved(alloc, text, last)?),
+        Refusal::TypedefShape => Ok(text.signs("TypedefShape")?),
+        Refusal::RelatorShape(part) => Ok(write_relator_shape(text, *part)?),
+        Refusal::PropertyShape(part) => Ok(write_property_shape(text, *part)?),
+        Refusal::DuplicateProperty(property, head) => {
+            Ok(write_duplicate_property(text, *property, head)?)
+        }
+        Refusal::DomainShape => Ok(text.signs("DomainShape")?),
+        Refusal::RuleShape(part) => Ok(write_rule_shape(text, *part)?),
+        Refusal::NotQuotient(part) => Ok(write_not_quotient(text, *part)?),
+        Refusal::BareParameter(ty) => Ok(write_typed(alloc, text, "BareParameter", ty)?),
+        Refusal::NoQuotient(abs, raw) => Ok(write_pair(alloc, text, "NoQuotient", abs, raw)?),
+        Refusal::RespectDiffers(goal) => Ok(write_term_of(alloc, text, "RespectDiffers", goal)?),
+        Refusal::NotParametric(NotParametric::At(ty)) => {
+            Ok(write_typed(alloc, text, "NotParametric", ty)?)
+        }
+        Refusal::NotParametric(NotParametric::Without(name)) => {
+            Ok(write_named(text, "NotParametric", name)?)
+        }
+        Refusal::HigherOrderArgument(n) => Ok(write_numbered(text, "HigherOrderArgument", *n)?),
+        Refusal::NoRepEquation(ty) => Ok(write_typed(alloc, text, "NoRepEquation", ty)?),
+        Refusal::NoTransport => Ok(text.signs("NoTransport")?),
+        Refusal::ImageDiffers(image) => Ok(write_term_of(alloc, text, "ImageDiffers", image)?),
+        Refusal::OpenTerm => Ok(text.signs("OpenTerm")?),
+        Refusal::TooLarge(n) => Ok(write_numbered(text, "TooLarge", *n as usize)?),
+        Refusal::SearchLimit(n) => Ok(write_numbered(text, "SearchLimit", *n as usize)?),
+        Refusal::NormLimit(n) => Ok(write_numbered(text, "NormLimit", *n as usize)?),
+        Refusal::NotBuilt => Ok(text.signs("NotBuilt")?),
         Refusal::Memory => Ok(text.signs("Memory")?),
     }
 }
@@ -62,26 +93,143 @@ fn write_named(text: &mut Text, word: &str, name: &Name) -> Result<(), Memory>
     Ok(text.name(name)?)
 }
 
-/// Adds the two types that differ.
-fn write_mismatch(alloc: Global, text: &mut Text, one: &Ty, other: &Ty) -> Result<(), Memory>
-    ensures { OnOk result (text.new ≡ text.old ++ (codes "Mismatch" ++ (codes " "
+/// Adds a word and a number.
+fn write_numbered(text: &mut Text, word: &str, n: usize) -> Result<(), Memory>
+    requires { are_ascii word.now ≡ true }
+    ensures { OnOk result (text.new ≡ text.old ++ (word.now ++ (codes " " ++ decimal n))) }
+{
+    text.signs(word)?;
+    text.signs(" ")?;
+    Ok(text.number(n)?)
+}
+
+/// Adds a word and a type.
+fn write_typed(alloc: Global, text: &mut Text, word: &str, ty: &Ty) -> Result<(), Memory>
+    requires { are_ascii word.now ≡ true }
+    ensures { OnOk result
+        (text.new ≡ text.old ++ (word.now ++ (codes " " ++ printed_type ty.now))) }
+{
+    text.signs(word)?;
+    text.signs(" ")?;
+    Ok(write_type(alloc, text, ty)?)
+}
+
+/// Adds a word and two types.
+fn write_pair(
+    alloc: Global,
+    text: &mut Text,
+    word: &str,
+    one: &Ty,
+    other: &Ty,
+) -> Result<(), Memory>
+    requires { are_ascii word.now ≡ true }
+    ensures { OnOk result (text.new ≡ text.old ++ (word.now ++ (codes " "
         ++ (printed_type one.now ++ (codes " " ++ printed_type other.now))))) }
 {
-    text.signs("Mismatch")?;
+    text.signs(word)?;
     text.signs(" ")?;
     write_type(alloc, text, one)?;
     text.signs(" ")?;
     Ok(write_type(alloc, text, other)?)
 }
 
-/// Adds the type of a statement.
-fn write_not_bool(alloc: Global, text: &mut Text, ty: &Ty) -> Result<(), Memory>
+/// Adds a word and a term.
+fn write_term_of(alloc: Global, text: &mut Text, word: &str, term: &Term) -> Result<(), Memory>
+    requires { are_ascii word.now ≡ true }
     ensures { OnOk result
-        (text.new ≡ text.old ++ (codes "NotBool" ++ (codes " " ++ printed_type ty.now))) }
+        (text.new ≡ text.old ++ (word.now ++ (codes " " ++ printed_term [] term.now))) }
 {
-    text.signs("NotBool")?;
+    text.signs(word)?;
     text.signs(" ")?;
-    Ok(write_type(alloc, text, ty)?)
+    Ok(write_term(alloc, text, term)?)
+}
+
+/// Adds the part of a relator that fails.
+fn write_relator_shape(text: &mut Text, part: RelatorPart) -> Result<(), Memory>
+    ensures { OnOk result (text.new
+        ≡ text.old ++ (codes "RelatorShape" ++ (codes " " ++ relator_part part))) }
+{
+    text.signs("RelatorShape")?;
+    text.signs(" ")?;
+    match part {
+        RelatorPart::Corr => Ok(text.signs("Corr")?),
+        RelatorPart::K => Ok(text.signs("K")?),
+        RelatorPart::R => Ok(text.signs("R")?),
+        RelatorPart::M => Ok(text.signs("M")?),
+        RelatorPart::E => Ok(text.signs("E")?),
+        RelatorPart::Q => Ok(text.signs("Q")?),
+        RelatorPart::O => Ok(text.signs("O")?),
+    }
+}
+
+/// Adds the part of a property's statement that fails.
+fn write_property_shape(text: &mut Text, part: PropertyPart) -> Result<(), Memory>
+    ensures { OnOk result (text.new
+        ≡ text.old ++ (codes "PropertyShape" ++ (codes " " ++ property_part part))) }
+{
+    text.signs("PropertyShape")?;
+    text.signs(" ")?;
+    match part {
+        PropertyPart::Prefix => Ok(text.signs("Prefix")?),
+        PropertyPart::Premise => Ok(text.signs("Premise")?),
+        PropertyPart::Head => Ok(text.signs("Head")?),
+    }
+}
+
+/// Adds the part of a transfer rule that fails.
+fn write_rule_shape(text: &mut Text, part: RulePart) -> Result<(), Memory>
+    ensures { OnOk result (text.new
+        ≡ text.old ++ (codes "RuleShape" ++ (codes " " ++ rule_part part))) }
+{
+    text.signs("RuleShape")?;
+    text.signs(" ")?;
+    match part {
+        RulePart::Prefix => Ok(text.signs("Prefix")?),
+        RulePart::Head => Ok(text.signs("Head")?),
+        RulePart::Relation => Ok(text.signs("Relation")?),
+        RulePart::Types => Ok(text.signs("Types")?),
+    }
+}
+
+/// Adds the test of a quotient that fails.
+fn write_not_quotient(text: &mut Text, part: QuotientPart) -> Result<(), Memory>
+    ensures { OnOk result (text.new
+        ≡ text.old ++ (codes "NotQuotient" ++ (codes " " ++ quotient_part part))) }
+{
+    text.signs("NotQuotient")?;
+    text.signs(" ")?;
+    match part {
+        QuotientPart::Shape => Ok(text.signs("shape")?),
+        QuotientPart::Abstract => Ok(text.signs("abstract")?),
+        QuotientPart::Relation => Ok(text.signs("relation")?),
+        QuotientPart::Order => Ok(text.signs("order")?),
+    }
+}
+
+/// Adds the property and the head that have a rule already.
+fn write_duplicate_property(text: &mut Text, property: Property, head: &Name) -> Result<(), Memory>
+    ensures { OnOk result (text.new ≡ text.old ++ (codes "DuplicateProperty" ++ (codes " "
+        ++ (property_word property ++ (codes " " ++ head.now))))) }
+{
+    text.signs("DuplicateProperty")?;
+    text.signs(" ")?;
+    write_property(text, property)?;
+    text.signs(" ")?;
+    Ok(text.name(head)?)
+}
+
+/// Adds the name of a property.
+fn write_property(text: &mut Text, property: Property) -> Result<(), Memory>
+    ensures { OnOk result (text.new ≡ text.old ++ property_word property) }
+{
+    match property {
+        Property::LeftTotal => Ok(text.signs("left_total")?),
+        Property::RightTotal => Ok(text.signs("right_total")?),
+        Property::LeftUnique => Ok(text.signs("left_unique")?),
+        Property::RightUnique => Ok(text.signs("right_unique")?),
+        Property::BiTotal => Ok(text.signs("bi_total")?),
+        Property::BiUnique => Ok(text.signs("bi_unique")?),
+    }
 }
 
 /// Adds a loose type variable.
@@ -127,7 +275,7 @@ fn write_reason(text: &mut Text, reason: Reason) -> Result<(), Memory>
 fn write_not_proved(
     alloc: Global,
     text: &mut Text,
-    last: &Option<TermSequent>,
+    last: &Option<SequentTerms>,
 ) -> Result<(), Memory>
     ensures { OnOk result
         (text.new ≡ text.old ++ (codes "NotProved" ++ (codes " " ++ shown_last last.now))) }

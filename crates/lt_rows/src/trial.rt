@@ -127,13 +127,15 @@ fn is_write_fault(row: &Row, ran: &Ran) -> bool {
     fronts && ran.status == 4
 }
 
-/// Whether the items that a call answered are accepted, are answered alike, and are those of whose
-/// lines it wrote: all of them, where the text was accepted with its line of counts. A call that
-/// writes a theory text answers none.
+/// Whether the items that a call answered are accepted, are answered alike, and are those that it
+/// wrote: as a report, or of whose lines; all of them, where the text was accepted with its line of
+/// counts. A call that writes a theory text answers none.
 fn is_same_theory(row: &Row, ran: &Ran, again: &Ran) -> bool {
     let read = again.status == 0 && again.err.is_empty();
     let lines = if ran.out.starts_with(b"theory ") {
         again.out.as_slice() == b"items 0 axioms 0 lemmas 0\n".as_slice()
+    } else if ran.out.starts_with(b"plain ") {
+        ran.out.as_slice() == ran.theory.as_slice()
     } else if row.status == 0 {
         again.out.as_slice() == ran.out.as_slice()
     } else {

@@ -1,5 +1,5 @@
 -- The file of a place in a joined text.
-use Rattle.std.proofs.Common.{◌≡◌, ◌⊎◌, inl, inr, ℕ, suc, ◌+◌, ◌-◌, ◌<◌, ◌≤◌, Bool, true, false, List, [], ◌∷◌, ◌++◌, length, map, take, drop, slice_get, get_or, Option, Some, None, refl, sym, ◌∙◌, ap, subst, arith, length-append, append_assoc}
+use Rattle.std.proofs.Common.{◌≡◌, ◌⊎◌, inl, inr, ℕ, suc, ◌+◌, ◌-◌, ◌<◌, ◌≤◌, Bool, true, false, List, [], ◌∷◌, ◌++◌, length, map, take, drop, slice_get, get_or, Option, Some, refl, sym, ◌∙◌, ap, arith, length-append, append_assoc}
 use Rattle.std.specs.Prelude.{if◌then◌else◌, nat_le}
 use Rattle.std.proofs.lemmas.List.{map-append, take-append-le, take_all}
 use Rattle.std.proofs.lemmas.Bool.{cases_lt}
@@ -8,7 +8,6 @@ use Rattle.std.proofs.lemmas.Option.{get_or_from_slice_get}
 use Rattle.std.proofs.Math.Seq.{drop-append_seam}
 use Rattle.lt_texts.specs.Files.{File, InFile, joined_text, in_file}
 use Rattle.lt_run.specs.declared.files.Joined.{Joined}
-use Rattle.lt_run.specs.declared.places.Front.{Front}
 use Rattle.lt_run.specs.Joining.{IsJoinedOf}
 use Rattle.lt_run.specs.Places.{AreNames, IsJoinedOfSome, IsFound}
 use Rattle.lt_run.proofs.Joins.{joined_parts}

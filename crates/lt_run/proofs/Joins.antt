@@ -1,12 +1,11 @@
 -- Files that are joined one after another.
-use Rattle.std.proofs.Common.{◌≡◌, ◌⊎◌, inl, inr, ℕ, zero, suc, ◌+◌, ◌-◌, ◌<◌, ◌≤◌, true, false, List, [], ◌∷◌, ◌++◌, length, map, take, drop, slice_get, get_or, Option, Some, None, refl, sym, ◌∙◌, ap, subst, arith, length-append, append_assoc, append-nil, if◌then◌else◌, nat_lt}
-use Rattle.std.specs.Prelude.{IfSome, IsSome}
+use Rattle.std.proofs.Common.{◌≡◌, inr, ℕ, zero, suc, ◌+◌, ◌-◌, ◌<◌, ◌≤◌, true, false, List, [], ◌∷◌, ◌++◌, length, take, drop, slice_get, get_or, Option, Some, None, refl, sym, ◌∙◌, ap, subst, arith, length-append, append_assoc, if◌then◌else◌, nat_lt}
+use Rattle.std.specs.Prelude.{IsSome}
 use Rattle.std.proofs.lemmas.List.{map-append}
 use Rattle.std.proofs.lemmas.Bool.{lt-ltb, le-ltb}
 use Rattle.lt_texts.specs.Files.{File, joined_text, first_past}
-use Rattle.lt_texts.specs.Walks.{plain_limit}
 use Rattle.lt_io.specs.Files.{Files, HoldsFile, StaysSame, StaysTold}
-use Rattle.lt_walks.specs.Calls.{HoldsBytes, AreNamed, AreRead}
+use Rattle.lt_walks.specs.Calls.{HoldsBytes, AreNamed}
 use Rattle.lt_run.specs.declared.files.Joined.{Joined}
 use Rattle.lt_run.specs.Joining.{AreIn, KeepsTold, IsJoinedOf, AreJoined, Joins, Passes, IsPassed, FailsToJoin}
 use Rattle.lt_io.specs.Causes.{Rose}
@@ -100,11 +99,11 @@ keeps_front (Some held) now names more keeps = λ h. keeps (in_front held names 
 -- ---- the files so far
 
 -- The first so many of the named files are joined.
-pub record IsJoining (old now : Option Files) (names : List (List ℕ)) (j : Joined) : Type 0 where
+pub record IsJoining (most : ℕ) (old now : Option Files) (names : List (List ℕ)) (j : Joined) : Type 0 where
   pub held : List File
   pub named : AreNamed now names held
   pub joined : IsJoinedOf held j
-  pub short : length j.text.items ≤ plain_limit
+  pub short : length j.text.items ≤ most
   pub same : StaysSame old now
   pub told : KeepsTold old now names
 
@@ -112,8 +111,8 @@ same-none : (files : Option Files) → StaysSame files files
 same-none None = tt
 same-none (Some held) = refl
 
-pub joining_none : (files : Option Files) (j : Joined) → j.text.items ≡ [] → j.lengths.items ≡ [] → IsJoining files files [] j
-joining_none files j e k = record {
+pub joining_none : (most : ℕ) (files : Option Files) (j : Joined) → j.text.items ≡ [] → j.lengths.items ≡ [] → IsJoining most files files [] j
+joining_none most files j e k = record {
   held = [];
   named = tt;
   joined = record { text = e; lengths = k };
@@ -122,9 +121,9 @@ joining_none files j e k = record {
   told = keeps_none files;
 }
 
-pub joining_more : (old mid now : Option Files) (names : List (List ℕ)) (name : List ℕ) (j j' : Joined) → IsJoining old mid names j → Joins now name j j' → StaysSame mid now → StaysTold mid now name
-    → IsJoining old now (names ++ name ∷ []) j'
-joining_more old mid now names name j j' h k same told =
+pub joining_more : (most : ℕ) (old mid now : Option Files) (names : List (List ℕ)) (name : List ℕ) (j j' : Joined) → IsJoining most old mid names j → Joins most now name j j' → StaysSame mid now → StaysTold mid now name
+    → IsJoining most old now (names ++ name ∷ []) j'
+joining_more most old mid now names name j j' h k same told =
     let f : File = record { name = name; bytes = k.bytes } in
     record {
       held = h.held ++ f ∷ [];
@@ -139,9 +138,9 @@ joining_more old mid now names name j j' h k same told =
     }
 
 -- where it is too long with one more
-pub joining_passes : (old mid now : Option Files) (names others : List (List ℕ)) (name : List ℕ) (j : Joined) (n : ℕ) → IsJoining old mid names j → Passes now name j → StaysSame mid now
-    → slice_get (names ++ name ∷ others) n ≡ Some name → IsPassed now (names ++ name ∷ others) n
-joining_passes old mid now names others name j n h k same at =
+pub joining_passes : (most : ℕ) (old mid now : Option Files) (names others : List (List ℕ)) (name : List ℕ) (j : Joined) (n : ℕ) → IsJoining most old mid names j → Passes most now name j → StaysSame mid now
+    → slice_get (names ++ name ∷ others) n ≡ Some name → IsPassed most now (names ++ name ∷ others) n
+joining_passes most old mid now names others name j n h k same at =
     let f : File = record { name = name; bytes = k.bytes } in
     let before : length (joined_text h.held) ≡ length j.text.items = ap length (sym h.joined.text) in
     let more : length (joined_text (h.held ++ f ∷ [])) ≡ length (joined_text h.held) + (length k.bytes + 1) =
@@ -158,11 +157,11 @@ joining_passes old mid now names others name j n h k same at =
         all = inr (omega (arith, before, more, long));
       };
       long = omega (arith, before, more, long);
-      name = at ∙ ap Some (sym (past_last h.held f plain_limit (omega (arith, before, short)) (omega (arith, before, long))));
+      name = at ∙ ap Some (sym (past_last h.held f most (omega (arith, before, short)) (omega (arith, before, long))));
     }
 
-pub joining_all : (old now : Option Files) (names : List (List ℕ)) (j : Joined) → IsJoining old now names j → AreJoined now names j
-joining_all old now names j h = record { held = h.held; named = h.named; joined = h.joined; short = h.short }
+pub joining_all : (most : ℕ) (old now : Option Files) (names : List (List ℕ)) (j : Joined) → IsJoining most old now names j → AreJoined most now names j
+joining_all most old now names j h = record { held = h.held; named = h.named; joined = h.joined; short = h.short }
 
 -- ---- one more file
 
@@ -175,18 +174,18 @@ long : (n : ℕ) → (text : List ℕ) × (n < length text)
 long zero = (0 ∷ [], omega arith)
 long (suc n) = let shorter = long n in (0 ∷ shorter.0, omega (arith, shorter.1))
 
-pub passes_by : (files : Option Files) (name : List ℕ) (j : Joined) (room : ℕ) → room ≡ plain_limit - length j.text.items → length j.text.items ≤ plain_limit
-    → HoldsFile files name (λ f. room < length f) → Passes files name j
-passes_by None name j room e short h = let bytes = long plain_limit in record { bytes = bytes.0; holds = tt; long = omega (arith, bytes.1) }
-passes_by (Some held) name j room e short (f, is, more) = record { bytes = f; holds = is; long = omega (arith, e, short, more) }
+pub passes_by : (most : ℕ) (files : Option Files) (name : List ℕ) (j : Joined) (room : ℕ) → room ≡ most - length j.text.items → length j.text.items ≤ most
+    → HoldsFile files name (λ f. room < length f) → Passes most files name j
+passes_by most None name j room e short h = let bytes = long most in record { bytes = bytes.0; holds = tt; long = omega (arith, bytes.1) }
+passes_by most (Some held) name j room e short (f, is, more) = record { bytes = f; holds = is; long = omega (arith, e, short, more) }
 
-pub passes_at : (files : Option Files) (name bytes : List ℕ) (j : Joined) (room : ℕ) → room ≡ plain_limit - length j.text.items → length j.text.items ≤ plain_limit
-    → HoldsFile files name (λ f. bytes ≡ f) → length bytes ≡ room → Passes files name j
-passes_at files name bytes j room e short h same = record { bytes = bytes; holds = bytes_held files name bytes h; long = omega (arith, e, short, same) }
+pub passes_at : (most : ℕ) (files : Option Files) (name bytes : List ℕ) (j : Joined) (room : ℕ) → room ≡ most - length j.text.items → length j.text.items ≤ most
+    → HoldsFile files name (λ f. bytes ≡ f) → length bytes ≡ room → Passes most files name j
+passes_at most files name bytes j room e short h same = record { bytes = bytes; holds = bytes_held files name bytes h; long = omega (arith, e, short, same) }
 
-pub joins_by : (files : Option Files) (name bytes : List ℕ) (j j' : Joined) (room : ℕ) → room ≡ plain_limit - length j.text.items → length j.text.items ≤ plain_limit
-    → HoldsFile files name (λ f. bytes ≡ f) → length bytes < room → j'.text.items ≡ j.text.items ++ (bytes ++ 10 ∷ []) → j'.lengths.items ≡ j.lengths.items ++ length bytes ∷ [] → Joins files name j j'
-joins_by files name bytes j j' room e short h less text lengths =
+pub joins_by : (most : ℕ) (files : Option Files) (name bytes : List ℕ) (j j' : Joined) (room : ℕ) → room ≡ most - length j.text.items → length j.text.items ≤ most
+    → HoldsFile files name (λ f. bytes ≡ f) → length bytes < room → j'.text.items ≡ j.text.items ++ (bytes ++ 10 ∷ []) → j'.lengths.items ≡ j.lengths.items ++ length bytes ∷ [] → Joins most files name j j'
+joins_by most files name bytes j j' room e short h less text lengths =
     let size = ap length text ∙ length-append j.text.items (bytes ++ 10 ∷ []) in
     let inner = length-append bytes (10 ∷ []) in
     record { bytes = bytes; holds = bytes_held files name bytes h; text = text; lengths = lengths; short = omega (arith, size, inner, e, short, less) }
@@ -210,35 +209,35 @@ take-next (n ∷ names) (suc i) name e =
     let next : suc i + 1 ≡ suc (i + 1) = omega arith in
     ap (λ (k : ℕ). take k (n ∷ names)) next ∙ ap (λ (z : List (List ℕ)). n ∷ z) (take-next names i name e)
 
-pub next_joined : (old mid now : Option Files) (names : List (List ℕ)) (i : ℕ) (name : List ℕ) (j j' : Joined) → slice_get names i ≡ Some name → IsJoining old mid (take i names) j → Joins now name j j'
-    → StaysSame mid now → StaysTold mid now name → IsJoining old now (take (i + 1) names) j'
-next_joined old mid now names i name j j' e h k same told =
-    subst (λ (z : List (List ℕ)). IsJoining old now z j') (sym (take-next names i name e)) (joining_more old mid now (take i names) name j j' h k same told)
+pub next_joined : (most : ℕ) (old mid now : Option Files) (names : List (List ℕ)) (i : ℕ) (name : List ℕ) (j j' : Joined) → slice_get names i ≡ Some name → IsJoining most old mid (take i names) j → Joins most now name j j'
+    → StaysSame mid now → StaysTold mid now name → IsJoining most old now (take (i + 1) names) j'
+next_joined most old mid now names i name j j' e h k same told =
+    subst (λ (z : List (List ℕ)). IsJoining most old now z j') (sym (take-next names i name e)) (joining_more most old mid now (take i names) name j j' h k same told)
 
-pub next_told : (old mid now : Option Files) (names : List (List ℕ)) (i : ℕ) (name : List ℕ) (j : Joined) → slice_get names i ≡ Some name → IsJoining old mid (take i names) j
+pub next_told : (most : ℕ) (old mid now : Option Files) (names : List (List ℕ)) (i : ℕ) (name : List ℕ) (j : Joined) → slice_get names i ≡ Some name → IsJoining most old mid (take i names) j
     → StaysTold mid now name → KeepsTold old now names
-next_told old mid now names i name j e h told =
+next_told most old mid now names i name j e h told =
     let more = keeps_more old mid now (take i names) name h.told h.same told in
     let whole : names ≡ (take i names ++ name ∷ []) ++ drop (i + 1) names = split-at names i name e ∙ sym (append_assoc (take i names) (name ∷ []) (drop (i + 1) names)) in
     subst (λ (z : List (List ℕ)). KeepsTold old now z) (sym whole) (keeps_front old now (take i names ++ name ∷ []) (drop (i + 1) names) more)
 
-next-passes : (old mid now : Option Files) (names : List (List ℕ)) (i : ℕ) (name : List ℕ) (j : Joined) → slice_get names i ≡ Some name → IsJoining old mid (take i names) j → Passes now name j
-    → StaysSame mid now → IsPassed now names i
-next-passes old mid now names i name j e h k same =
-    subst (λ (z : List (List ℕ)). IsPassed now z i) (sym (split-at names i name e)) (joining_passes old mid now (take i names) (drop (i + 1) names) name j i h k same (at-seam names i name e))
+next-passes : (most : ℕ) (old mid now : Option Files) (names : List (List ℕ)) (i : ℕ) (name : List ℕ) (j : Joined) → slice_get names i ≡ Some name → IsJoining most old mid (take i names) j → Passes most now name j
+    → StaysSame mid now → IsPassed most now names i
+next-passes most old mid now names i name j e h k same =
+    subst (λ (z : List (List ℕ)). IsPassed most now z i) (sym (split-at names i name e)) (joining_passes most old mid now (take i names) (drop (i + 1) names) name j i h k same (at-seam names i name e))
 
 earlier : (a b c : ℕ) → a ≤ b → Rose b c → Rose a c
 earlier a b c h k = omega (arith, h, k)
 
 -- why the files weren't joined
-pub next_fails : (old mid now : Option Files) (first before behind : ℕ) (names : List (List ℕ)) (i : ℕ) (name : List ℕ) (j : Joined) (f : ReadFault) (u : Unjoined)
-    → slice_get names i ≡ Some name → IsJoining old mid (take i names) j → StaysSame mid now → first ≤ before → (f ≡ faults.Fault → u ≡ unjoined.Fault i) → (f ≡ faults.TooLong → u ≡ unjoined.TooLong i)
-    → (f ≡ faults.Memory → u ≡ unjoined.Memory) → (f ≡ faults.Fault → Rose before behind) → (f ≡ faults.TooLong → Passes now name j) → FailsToJoin now first behind names u
-next_fails old mid now first before behind names i name j faults.Fault u e h same le a b c rose long =
-    subst (FailsToJoin now first behind names) (sym (a refl)) (slice_get_within names i name e, earlier first before behind le (rose refl))
-next_fails old mid now first before behind names i name j faults.TooLong u e h same le a b c rose long =
-    subst (FailsToJoin now first behind names) (sym (b refl)) (slice_get_within names i name e, next-passes old mid now names i name j e h (long refl) same)
-next_fails old mid now first before behind names i name j faults.Memory u e h same le a b c rose long = subst (FailsToJoin now first behind names) (sym (c refl)) tt
+pub next_fails : (most : ℕ) (old mid now : Option Files) (first before behind : ℕ) (names : List (List ℕ)) (i : ℕ) (name : List ℕ) (j : Joined) (f : ReadFault) (u : Unjoined)
+    → slice_get names i ≡ Some name → IsJoining most old mid (take i names) j → StaysSame mid now → first ≤ before → (f ≡ faults.Fault → u ≡ unjoined.Fault i) → (f ≡ faults.TooLong → u ≡ unjoined.TooLong i)
+    → (f ≡ faults.Memory → u ≡ unjoined.Memory) → (f ≡ faults.Fault → Rose before behind) → (f ≡ faults.TooLong → Passes most now name j) → FailsToJoin most now first behind names u
+next_fails most old mid now first before behind names i name j faults.Fault u e h same le a b c rose long =
+    subst (FailsToJoin most now first behind names) (sym (a refl)) (slice_get_within names i name e, earlier first before behind le (rose refl))
+next_fails most old mid now first before behind names i name j faults.TooLong u e h same le a b c rose long =
+    subst (FailsToJoin most now first behind names) (sym (b refl)) (slice_get_within names i name e, next-passes most old mid now names i name j e h (long refl) same)
+next_fails most old mid now first before behind names i name j faults.Memory u e h same le a b c rose long = subst (FailsToJoin most now first behind names) (sym (c refl)) tt
 
 -- the name at a place
 pub name_at : (names : List (List ℕ)) (i : ℕ) (item name : List ℕ) → i < length names → item ≡ get_or names i item → name ≡ item → slice_get names i ≡ Some name

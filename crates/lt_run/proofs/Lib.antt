@@ -1,9 +1,10 @@
-pub mod Fronts
 pub mod Joins
 pub mod InFiles
 pub mod Summaries
 pub mod Walking
-pub mod Told
 pub mod Lines
-pub mod Asking
 pub mod Statuses
+pub mod Told
+pub mod Asking
+pub mod OneRun
+pub mod Sures

@@ -1,6 +1,6 @@
 -- The line on a refusal, by its parts.
-use Rattle.std.proofs.Common.{◌≡◌, ◌⊎◌, inl, inr, ℕ, ◌+◌, ◌-◌, ◌<◌, ◌≤◌, true, false, List, [], ◌∷◌, ◌++◌, length, map, slice_get, Option, Some, None, Result, Ok, Err, refl, sym, ◌∙◌, ap, subst, arith, codes}
-use Rattle.std.specs.Prelude.{encode_utf8_all, nat_le, if◌then◌else◌, IfOk}
+use Rattle.std.proofs.Common.{◌≡◌, ◌⊎◌, inl, inr, ℕ, ◌+◌, ◌-◌, ◌<◌, ◌≤◌, true, false, List, [], ◌∷◌, ◌++◌, length, map, slice_get, Option, Some, Result, Ok, Err, refl, sym, ◌∙◌, ap, arith, codes}
+use Rattle.std.specs.Prelude.{encode_utf8_all, nat_le, IfOk}
 use Rattle.std.specs.Fmt.{decimal}
 use Rattle.std.proofs.lemmas.Bool.Decides.{leb_tells}
 use Rattle.lt_definitions.specs.Types.{Chars}
@@ -11,19 +11,25 @@ use Rattle.lt_texts.specs.WrongPlaces.{Wrong, bad_header, bad_command, bad_synta
 use Rattle.lt_walks.specs.Walks.{End, accepted, too_long, wrong_header, unread, refused}
 use Rattle.lt_walks.specs.RefusalTexts.{printed_refusal, wrong_word, wrong_place}
 use Rattle.lt_walks.specs.Outputs.{line_about, check_line}
-use Rattle.lt_plain.specs.declared.refusal.Placed.{Placed}
+use Rattle.lt_commands.specs.declared.refusal.Placed.{Placed}
 use Rattle.lt_plain.specs.Telling.{as_placed, TellsEnd}
 use Rattle.lt_plain.specs.Showing.{shown_words}
 use Rattle.lt_plain.proofs.Showings.{told_prints, wrong_prints}
+use Rattle.lt_session.specs.Walks.{RunRefusal, printed}
+use Rattle.lt_session.specs.Stepping.{TellsEnd as TellsRunEnd}
+use Rattle.lt_session.proofs.Showings.{told_run_prints}
+use Rattle.lt_run.specs.Runs.{run_line}
 use Rattle.lt_run.specs.declared.files.Joined.{Joined}
 use Rattle.lt_run.specs.declared.places.Position.{Position}
-use Rattle.lt_run.specs.Places.{AreNames, IsJoinedOfSome}
+use Rattle.lt_run.specs.Places.{AreNames, IsJoinedOfSome, placed_line}
 use Rattle.lt_run.proofs.InFiles.{this-file, later-file}
 
--- a line about a place that is in a file
-about : (files : List File) (place : ℕ) (what : Chars) (p : InFile) → in_file files place ≡ Some p
-    → line_about (in_file files place) what ≡ printed_place p ++ (codes ": " ++ (encode_utf8_all what ++ codes "\n"))
-about files place what p e = ap (λ (o : Option InFile). line_about o what) e
+-- the line on a refusal, by its parts
+pub line_printed : (files : List File) (placed : Placed) (p : InFile) (place refusal line : List ℕ) → in_file files placed.at ≡ Some p → place ≡ printed_place p
+    → refusal ≡ encode_utf8_all (words (shown_words placed.refusal)) → line ≡ place ++ (codes ": " ++ (refusal ++ codes "\n")) → line ≡ placed_line files placed
+unfolding placed_line
+line_printed files placed p place refusal line found is printed parts =
+    parts ∙ (λ i. is i ++ (codes ": " ++ (printed i ++ codes "\n"))) ∙ sym (ap (λ (o : Option InFile). line_about o (words (shown_words placed.refusal))) found)
 
 wrong_at : (e : Wrong) → (as_placed e).at ≡ wrong_place e
 wrong_at (bad_header n) = refl
@@ -32,26 +38,30 @@ wrong_at (bad_syntax n) = refl
 wrong_at (bad_byte n) = refl
 wrong_at (bad_char n) = refl
 
-line-by : (files : List File) (at : ℕ) (what : Chars) (placed : Placed) (p : InFile) (place refusal line : List ℕ) → in_file files placed.at ≡ Some p → place ≡ printed_place p
-    → refusal ≡ encode_utf8_all (words (shown_words placed.refusal)) → line ≡ place ++ (codes ": " ++ (refusal ++ codes "\n")) → placed.at ≡ at → words (shown_words placed.refusal) ≡ what
-    → line ≡ line_about (in_file files at) what
-line-by files at what placed p place refusal line found is printed parts same word =
-    parts ∙ (λ i. is i ++ (codes ": " ++ ((printed ∙ ap encode_utf8_all word) i ++ codes "\n")))
-    ∙ sym (about files at what p (subst (λ (n : ℕ). in_file files n ≡ Some p) same found))
+line_at : (files : List File) (placed : Placed) (at : ℕ) (what : Chars) → placed.at ≡ at → words (shown_words placed.refusal) ≡ what → placed_line files placed ≡ line_about (in_file files at) what
+unfolding placed_line
+line_at files placed at what same word = λ i. line_about (in_file files (same i)) (word i)
 
-pub line_told : (files : List File) (end : End Refusal) (placed : Placed) (p : InFile) (place refusal line : List ℕ) → TellsEnd end placed → in_file files placed.at ≡ Some p → place ≡ printed_place p
-    → refusal ≡ encode_utf8_all (words (shown_words placed.refusal)) → line ≡ place ++ (codes ": " ++ (refusal ++ codes "\n")) → line ≡ check_line files end
+pub wrong_told : (files : List File) (e : Wrong) (placed : Placed) → placed ≡ as_placed e → placed_line files placed ≡ line_about (in_file files (wrong_place e)) (wrong_word e)
+wrong_told files e placed tells =
+    line_at files placed (wrong_place e) (wrong_word e) (ap (λ (z : Placed). z.at) tells ∙ wrong_at e) (ap (λ (z : Placed). words (shown_words z.refusal)) tells ∙ wrong_prints e)
+
+-- how the walk of `check` ends, as it is told
+pub line_told : (files : List File) (end : End Refusal) (placed : Placed) → TellsEnd end placed → placed_line files placed ≡ check_line files end
 unfolding check_line
-line_told files accepted placed p place refusal line tells found is printed parts = absurd tells
-line_told files too_long placed p place refusal line tells found is printed parts = absurd tells
-line_told files (wrong_header e) placed p place refusal line tells found is printed parts =
-    line-by files (wrong_place e) (wrong_word e) placed p place refusal line found is printed parts (ap (λ (z : Placed). z.at) tells ∙ wrong_at e)
-    (ap (λ (z : Placed). words (shown_words z.refusal)) tells ∙ wrong_prints e)
-line_told files (unread e) placed p place refusal line tells found is printed parts =
-    line-by files (wrong_place e) (wrong_word e) placed p place refusal line found is printed parts (ap (λ (z : Placed). z.at) tells ∙ wrong_at e)
-    (ap (λ (z : Placed). words (shown_words z.refusal)) tells ∙ wrong_prints e)
-line_told files (refused r at) placed p place refusal line (same, tells) found is printed parts =
-    line-by files at (printed_refusal r) placed p place refusal line found is printed parts same (told_prints r placed.refusal tells)
+line_told files accepted placed tells = absurd tells
+line_told files too_long placed tells = absurd tells
+line_told files (wrong_header e) placed tells = wrong_told files e placed tells
+line_told files (unread e) placed tells = wrong_told files e placed tells
+line_told files (refused r at) placed (same, tells) = line_at files placed at (printed_refusal r) same (told_prints r placed.refusal tells)
+
+-- how that of `run` ends
+pub run_told : (files : List File) (end : End RunRefusal) (placed : Placed) → TellsRunEnd end placed → placed_line files placed ≡ run_line files end
+run_told files accepted placed tells = absurd tells
+run_told files too_long placed tells = absurd tells
+run_told files (wrong_header e) placed tells = wrong_told files e placed tells
+run_told files (unread e) placed tells = wrong_told files e placed tells
+run_told files (refused r at) placed (same, tells) = line_at files placed at (printed r) same (told_run_prints r placed.refusal tells)
 
 -- each place is in a file, where there is one
 pub in_some : (files : List File) (place : ℕ) → 0 < length files → (p : InFile) × (in_file files place ≡ Some p)

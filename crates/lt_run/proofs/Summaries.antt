@@ -1,17 +1,15 @@
 -- What the first sink gets, item by item.
-use Rattle.std.proofs.Common.{◌≡◌, ◌⊎◌, inl, inr, ℕ, List, [], ◌∷◌, ◌++◌, map, Option, Some, None, Result, Ok, Err, refl, sym, ◌∙◌, ap, subst, append_assoc, append-nil}
-use Rattle.std.specs.Prelude.{encode_utf8_all, OnOk, OnErr}
+use Rattle.std.proofs.Common.{◌≡◌, ℕ, List, [], ◌∷◌, ◌++◌, Option, refl, sym, ◌∙◌, ap, subst, append_assoc, append-nil}
+use Rattle.std.specs.Prelude.{encode_utf8_all}
 use Rattle.std.proofs.lemmas.Str.{encodes-append}
 use Rattle.std.proofs.lemmas.Grind.{flat_map-append}
-use Rattle.std.proofs.lemmas.List.{map-append}
 use Rattle.lt_definitions.specs.Items.{Item}
 use Rattle.lt_definitions.specs.Theory.{Refusal}
 use Rattle.lt_definitions.specs.Printing.{summary_line, summary_lines, count_line}
-use Rattle.lt_io.specs.Written.{Grew, GrewByFront}
-use Rattle.lt_io.proofs.WriteLemmas.{Grew-append}
+use Rattle.lt_io.specs.Written.{GrewByFront}
 use Rattle.lt_walks.specs.Walks.{End, accepted, too_long, wrong_header, unread, refused}
 use Rattle.lt_walks.specs.Outputs.{summary_of}
-use Rattle.lt_run.proofs.Fronts.{Grew-none, Grew-after_none, front_all, front_first, front_behind, front_longer, front_none}
+use Rattle.lt_session.proofs.Fronts.{front_longer}
 
 -- the bytes of summary lines
 abbrev pub lines_of : List Item → List ℕ

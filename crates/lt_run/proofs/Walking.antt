@@ -1,5 +1,5 @@
 -- A walk that writes, on its way: its begin, its next item, and each way in which it stops.
-use Rattle.std.proofs.Common.{◌≡◌, ◌≢◌, ◌⊎◌, inl, inr, ℕ, ◌-◌, List, [], ◌∷◌, ◌++◌, length, map, slice_get, length-append, arith, Option, Some, None, Result, Ok, Err, refl, sym, ◌∙◌, ap, subst, append-nil}
+use Rattle.std.proofs.Common.{◌≡◌, ◌⊎◌, inl, inr, ℕ, ◌-◌, List, [], ◌∷◌, ◌++◌, length, slice_get, length-append, arith, Option, Some, None, Result, Ok, Err, refl, sym, ◌∙◌, ap, subst, append-nil}
 use Rattle.std.specs.Prelude.{encode_utf8_all, OnOk, OnErr}
 use Rattle.std.proofs.lemmas.List.{map-append}
 use Rattle.lt_definitions.specs.Items as theory
@@ -18,15 +18,16 @@ use Rattle.lt_walks.specs.PlainWalks.{ChecksText}
 use Rattle.lt_walks.specs.Outputs.{summary_of}
 use Rattle.lt_walks.proofs.OnTheWay.{ComesTo, has_end}
 use Rattle.lt_walks.proofs.PlainWalkLemmas.{each_text_check}
-use Rattle.lt_plain.specs.declared.refusal.Refusal.TheVariants.{Memory as NoMemory}
-use Rattle.lt_plain.specs.declared.refusal.Placed.{Placed}
+use Rattle.lt_commands.specs.declared.refusal.Refusal.TheVariants.{Memory as NoMemory}
+use Rattle.lt_commands.specs.declared.refusal.Placed.{Placed}
 use Rattle.lt_plain.specs.Telling.{TellsEnd}
 use Rattle.lt_plain.specs.Stepping.{IsNext, StopsAt, RefusesHeader}
 use Rattle.lt_plain.proofs.Steppings.{on_by, at_end, at_stop, in_header}
-use Rattle.lt_run.specs.declared.walk.Stop.{Stop}
-use Rattle.lt_run.specs.declared.walk.Stop.TheVariants as stops
-use Rattle.lt_run.specs.Walked.{IsNoRefusal, IsStop, IsCut, IsEnd, IsWalked}
-use Rattle.lt_run.proofs.Fronts.{Grew-none, Grew-after_none, front_all, front_behind, front_none}
+use Rattle.lt_session.specs.declared.running.Stop.{Stop}
+use Rattle.lt_session.specs.declared.running.Stop.TheVariants as stops
+use Rattle.lt_session.specs.Running.{IsNoRefusal, IsStop}
+use Rattle.lt_run.specs.Walked.{IsCut, IsEnd, IsWalked}
+use Rattle.lt_session.proofs.Fronts.{Grew-none, front_all, front_behind, front_none}
 use Rattle.lt_run.proofs.Summaries.{lines_of, lines_more, summary_accepted, summary_refused, IsNotAccepted, front_of_lines}
 
 -- These items were accepted, what is left of the text is this, and their lines were written.

@@ -1,7 +1,7 @@
 -- The definitions that the contracts cite.
-pub mod Counts
-pub mod Words
 pub mod Joining
 pub mod Places
 pub mod Walked
 pub mod Endings
+pub mod Runs
+pub mod Outcomes

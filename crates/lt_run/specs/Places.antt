@@ -1,6 +1,10 @@
 -- Places in the files that a text is joined of.
+use Rattle.lt_definitions.specs.Printing.{words}
 use Rattle.std.specs.Prelude.{◌≡◌, ℕ, ◌-◌, ◌<◌, ◌≤◌, List, Some, length, map, take, drop, slice_get}
 use Rattle.lt_texts.specs.Files.{File, InFile, in_file, line_number, column_number}
+use Rattle.lt_walks.specs.Outputs.{line_about}
+use Rattle.lt_commands.specs.declared.refusal.Placed.{Placed}
+use Rattle.lt_plain.specs.Showing.{shown_words}
 use Rattle.lt_run.specs.declared.files.Joined.{Joined}
 use Rattle.lt_run.specs.declared.places.Front.{Front}
 use Rattle.lt_run.specs.declared.places.Position.{Position}
@@ -30,3 +34,7 @@ pub record IsFound (names : List (List ℕ)) (j : Joined) (place : ℕ) (front :
 pub record IsBehind (before : List ℕ) (p : Position) : Type 0 where
   pub line : p.line ≡ line_number before
   pub column : p.column ≡ column_number before
+
+-- the line on a refusal with its place
+unfoldable pub placed_line : List File → Placed → List ℕ
+placed_line held p = line_about (in_file held p.at) (words (shown_words p.refusal))

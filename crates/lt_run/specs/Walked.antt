@@ -1,33 +1,14 @@
--- What comes of a walk, and when it may be cut short.
-use Rattle.std.specs.Prelude.{◌≡◌, ◌≢◌, ℕ, ◌≤◌, List, ◌++◌, Option, Result, Ok, Err, IsErrOf}
+-- What comes of the walk of `check`.
+use Rattle.std.specs.Prelude.{ℕ, List, ◌++◌, Option, Result, Ok, Err}
 use Rattle.lt_definitions.specs.Items.{Item}
 use Rattle.lt_definitions.specs.Theory.{Refusal}
-use Rattle.lt_io.specs.Causes.{Rose}
 use Rattle.lt_io.specs.Written.{Grew, GrewByFront}
 use Rattle.lt_walks.specs.Walks.{End, accepted}
 use Rattle.lt_walks.specs.PlainWalks.{ChecksText}
 use Rattle.lt_walks.specs.Outputs.{summary_of}
-use Rattle.lt_plain.specs.declared.refusal.Refusal.TheVariants.{Memory as NoMemory}
-use Rattle.lt_plain.specs.declared.refusal.Placed.{Placed}
 use Rattle.lt_plain.specs.Telling.{TellsEnd}
-use Rattle.lt_run.specs.declared.walk.Stop.{Stop}
-use Rattle.lt_run.specs.declared.walk.Stop.TheVariants.{Refused, Fault, Memory}
-
--- the sink's count of faults doesn't fall, and a failed write cuts a step short only where it rose
-pub record CutByCause {T : Type 0} (before now : ℕ) (result : Result T Stop) : Type 0 where
-  pub later : before ≤ now
-  pub fault : IsErrOf result Fault → Rose before now
-
--- a step that writes refuses nothing
-abbrev pub IsNoRefusal : Result (Unit {0}) Stop → Type 0
-IsNoRefusal (Err (Refused p)) = ⊥
-IsNoRefusal _ = Unit {0}
-
--- a refusal that isn't want of memory stops a walk as it is
-abbrev pub IsStop : Placed → Stop → Type 0
-IsStop p (Refused q) = (q ≡ p) × (p.refusal ≢ NoMemory)
-IsStop p Fault = ⊥
-IsStop p Memory = p.refusal ≡ NoMemory
+use Rattle.lt_session.specs.declared.running.Stop.{Stop}
+use Rattle.lt_session.specs.declared.running.Stop.TheVariants.{Refused, Fault, Memory}
 
 -- These are the first items of the walk through the text, and the sink got a front of its summary.
 unfoldable pub IsCut : List ℕ → List Item → Option (List ℕ) → Option (List ℕ) → Type 0

@@ -13,9 +13,9 @@ ghost use Rattle.lt_run.specs.Walked.{IsCut};
 ghost use Rattle.lt_run.specs.Endings.{IsTold};
 
 use crate::ended::{Ended, without_items};
-use crate::files::{Joined, Unjoined, join_files};
-use crate::telling::{tell_read_fault, tell_refusal, tell_too_long};
-use crate::walk::{Stop, walk_text};
+use crate::files::{Joined, join_files};
+use crate::telling::{tell_unjoined, tell_walk};
+use crate::walk::walk_text;
 use lt_extend::Theory;
 use lt_io::{Library, Sink};
 use lt_shared::SharedStore;
@@ -23,7 +23,10 @@ use lt_store::TermStore;
 use lt_words::Text;
 use std::alloc::Global;
 
-/// Checks the text that is joined of files.
+/// How many bytes a joined plain text may have.
+const PLAIN_LIMIT: usize = 268_435_456;
+
+/// Checks the plain text that is joined of files.
 pub(crate) fn check_files<L: Library, O: Sink, E: Sink>(
     alloc: Global,
     names: &[Text],
@@ -56,15 +59,9 @@ pub(crate) fn check_files<L: Library, O: Sink, E: Sink>(
     ensures later { (L.faults lib.old ≤ L.faults lib.new) × (O.faults out.old ≤ O.faults out.new)
         × (E.faults err.old ≤ E.faults err.new) }
 {
-    match join_files(alloc, names, lib) {
+    match join_files(alloc, names, PLAIN_LIMIT, lib) {
         Ok(joined) => check_joined(alloc, names, &joined, out, err),
-        Err(Unjoined::Fault(at)) => {
-            without_items(alloc, tell_read_fault(alloc, names[at].as_str(), err))
-        }
-        Err(Unjoined::TooLong(at)) => {
-            without_items(alloc, tell_too_long(alloc, names[at].as_str(), err))
-        }
-        Err(Unjoined::Memory) => without_items(alloc, 5),
+        Err(fault) => without_items(alloc, tell_unjoined(alloc, names, fault, err)),
     }
 }
 
@@ -157,10 +154,6 @@ fn check_into<S: TermStore, O: Sink, E: Sink>(
         (items_of th.new.items) (O.written out.old) (O.written out.new) }
     ensures later { (O.faults out.old ≤ O.faults out.new) × (E.faults err.old ≤ E.faults err.new) }
 {
-    match walk_text(alloc, &joined.text, th, out) {
-        Ok(()) => 0,
-        Err(Stop::Refused(placed)) => tell_refusal(alloc, names, joined, &placed, err),
-        Err(Stop::Fault) => 4,
-        Err(Stop::Memory) => 5,
-    }
+    let walked = walk_text(alloc, &joined.text, th, out);
+    tell_walk(alloc, names, joined, walked, err)
 }

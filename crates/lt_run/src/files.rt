@@ -2,16 +2,12 @@
 ghost use Rattle.std.specs.Prelude.{◌≡◌, ◌≤◌, ◌<◌, ◌++◌, ◌∷◌, [], length, IfOk, IfErr, IsErrOf};
 ghost use Rattle.lt_io.specs.Causes.{Rose};
 ghost use Rattle.lt_io.specs.Files.{StaysSame, StaysTold, HoldsFile};
-ghost use Rattle.lt_texts.specs.Walks.{plain_limit};
 ghost use Rattle.lt_run.specs.Joining.{AreJoined, FailsToJoin, KeepsTold, Joins, Passes};
 
 use lt_hol::Memory;
 use lt_io::{Library, ReadFault, read_all};
 use lt_words::Text;
 use std::alloc::Global;
-
-/// How many bytes a joined text may have.
-pub(crate) const LIMIT: usize = 268_435_456;
 
 /// Files joined to one text, a line feed behind each, and how many bytes each file has.
 #[derive(Drop)]
@@ -29,15 +25,16 @@ pub(crate) enum Unjoined {
     Memory,
 }
 
-/// Reads the files in order and joins them. The first that can't be read, or with which the text is
-/// too long, ends it.
+/// Reads the files in order and joins them to a text of so many bytes at most. The first that can't be
+/// read, or with which the text is longer, ends it.
 pub(crate) fn join_files<L: Library>(
     alloc: Global,
     names: &[Text],
+    most: usize,
     lib: &mut L,
 ) -> Result<Joined, Unjoined>
-    ensures joined { IfOk result (λ j. AreJoined (L.files lib.new) names.now j) }
-    ensures failed { IfErr result (λ e. FailsToJoin (L.files lib.new) (L.faults lib.old)
+    ensures joined { IfOk result (λ j. AreJoined most (L.files lib.new) names.now j) }
+    ensures failed { IfErr result (λ e. FailsToJoin most (L.files lib.new) (L.faults lib.old)
         (L.faults lib.new) names.now e) }
     ensures same { StaysSame (L.files lib.old) (L.files lib.new) }
     ensures told { KeepsTold (L.files lib.old) (L.files lib.new) names.now }
@@ -48,7 +45,7 @@ pub(crate) fn join_files<L: Library>(
         lengths: Vec::new(alloc),
     };
     for at in 0..names.len() {
-        joined = match join_file(alloc, names[at].as_str(), lib, joined) {
+        joined = match join_file(alloc, names[at].as_str(), most, lib, joined) {
             Ok(more) => more,
             Err(fault) => return Err(of_fault(fault, at)),
         };
@@ -73,19 +70,20 @@ fn of_fault(fault: ReadFault, at: usize) -> Unjoined
 fn join_file<L: Library>(
     alloc: Global,
     name: &str,
+    most: usize,
     lib: &mut L,
     joined: Joined,
 ) -> Result<Joined, ReadFault>
-    requires { length joined.text.items ≤ plain_limit }
-    ensures joins { IfOk result (λ j. Joins (L.files lib.new) name.now joined j) }
+    requires { length joined.text.items ≤ most }
+    ensures joins { IfOk result (λ j. Joins most (L.files lib.new) name.now joined j) }
     ensures too_long { IsErrOf result ReadFault.TooLong
-        → Passes (L.files lib.new) name.now joined }
+        → Passes most (L.files lib.new) name.now joined }
     ensures fault { IsErrOf result ReadFault.Fault → Rose (L.faults lib.old) (L.faults lib.new) }
     ensures same { StaysSame (L.files lib.old) (L.files lib.new) }
     ensures told { StaysTold (L.files lib.old) (L.files lib.new) name.now }
     ensures later { L.faults lib.old ≤ L.faults lib.new }
 {
-    let room = LIMIT - joined.text.len();
+    let room = most - joined.text.len();
     let file = match read_all(alloc, lib, name, room as u64) {
         Ok(file) => file,
         Err(fault) => return Err(fault),

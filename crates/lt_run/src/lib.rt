@@ -3,12 +3,12 @@
 
 mod asked;
 mod check;
-mod counts;
 mod ended;
 mod files;
 mod places;
 mod report;
 mod run;
+mod running;
 mod sure;
 mod telling;
 mod texts;

@@ -1,13 +1,9 @@
 //! The lines on the second sink.
 ghost use Rattle.std.specs.Prelude.{◌≡◌, ◌++◌, List, codes, IfOk, string_bytes};
-ghost use Rattle.lt_definitions.specs.Theory.{Refusal};
 ghost use Rattle.lt_texts.specs.Files.{File};
-ghost use Rattle.lt_walks.specs.Walks.{End};
 ghost use Rattle.lt_walks.specs.Calls.{read_fault_line};
-ghost use Rattle.lt_walks.specs.Outputs.{check_line};
-ghost use Rattle.lt_plain.specs.Telling.{TellsEnd};
 ghost use Rattle.lt_run.specs.Joining.{IsJoinedOf};
-ghost use Rattle.lt_run.specs.Places.{AreNames, IsJoinedOfSome};
+ghost use Rattle.lt_run.specs.Places.{AreNames, IsJoinedOfSome, placed_line};
 
 use crate::files::Joined;
 use crate::places::place_text;
@@ -24,9 +20,8 @@ pub(crate) fn refusal_line(
     placed: &Placed,
 ) -> Result<String, Memory>
     requires { IsJoinedOfSome names.now joined.now }
-    ensures { (held : List File) (end : End Refusal) → AreNames names.now held
-        → IsJoinedOf held joined.now → TellsEnd end placed.now
-        → IfOk result (λ line. string_bytes line ≡ check_line held end) }
+    ensures { (held : List File) → AreNames names.now held → IsJoinedOf held joined.now
+        → IfOk result (λ line. string_bytes line ≡ placed_line held placed.now) }
 {
     let place = place_text(alloc, names, joined, placed.at)?;
     let refusal = print_refusal(alloc, &placed.refusal)?;

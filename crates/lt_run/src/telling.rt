@@ -1,20 +1,18 @@
 //! What is told on the second sink, and the status of it.
-ghost use Rattle.std.specs.Prelude.{◌≡◌, ◌≤◌, ◌⊎◌, ◌++◌, List, codes};
-ghost use Rattle.lt_definitions.specs.Theory.{Refusal};
+ghost use Rattle.std.specs.Prelude.{◌≡◌, ◌≤◌, ◌⊎◌, ◌++◌, ℕ, List, Some, slice_get, codes, IsErrOf};
 ghost use Rattle.lt_texts.specs.Files.{File};
 ghost use Rattle.lt_io.specs.Causes.{Rose};
 ghost use Rattle.lt_io.specs.Written.{Grew};
-ghost use Rattle.lt_walks.specs.Walks.{End};
 ghost use Rattle.lt_walks.specs.Calls.{usage_line, read_fault_line};
-ghost use Rattle.lt_walks.specs.Outputs.{check_line};
-ghost use Rattle.lt_plain.specs.Telling.{TellsEnd};
 ghost use Rattle.lt_run.specs.Joining.{IsJoinedOf};
-ghost use Rattle.lt_run.specs.Places.{AreNames, IsJoinedOfSome};
+ghost use Rattle.lt_run.specs.Places.{AreNames, IsJoinedOfSome, placed_line};
+ghost use Rattle.lt_run.specs.Endings.{IsAmong, TellsWalk};
 
-use crate::files::Joined;
+use crate::files::{Joined, Unjoined};
 use crate::report::{read_fault_text, refusal_line, too_long_line};
 use lt_io::{Sink, write_all};
 use lt_plain::Placed;
+use lt_session::Stop;
 use lt_words::Text;
 use std::alloc::Global;
 
@@ -31,8 +29,33 @@ pub(crate) fn refuse_words<E: Sink>(err: &mut E) -> u8
     }
 }
 
+/// Writes why files weren't joined.
+pub(crate) fn tell_unjoined<E: Sink>(
+    alloc: Global,
+    names: &[Text],
+    fault: Unjoined,
+    err: &mut E,
+) -> u8
+    requires { IsAmong names.now fault }
+    ensures read { result ≡ 3 → (name : List ℕ) × (n : ℕ) × (fault ≡ Unjoined.Fault n)
+        × (slice_get names.now n ≡ Some name)
+        × Grew (E.written err.old) (E.written err.new) (read_fault_line name) }
+    ensures line { result ≡ 1 → (name : List ℕ) × (n : ℕ) × (fault ≡ Unjoined.TooLong n)
+        × (slice_get names.now n ≡ Some name)
+        × Grew (E.written err.old) (E.written err.new) (name ++ codes ": TooLong\n") }
+    ensures write { result ≡ 4 → Rose (E.faults err.old) (E.faults err.new) }
+    ensures later { E.faults err.old ≤ E.faults err.new }
+    ensures status { (result ≡ 1) ⊎ (result ≡ 3) ⊎ (result ≡ 4) ⊎ (result ≡ 5) }
+{
+    match fault {
+        Unjoined::Fault(at) => tell_read_fault(alloc, names[at].as_str(), err),
+        Unjoined::TooLong(at) => tell_too_long(alloc, names[at].as_str(), err),
+        Unjoined::Memory => 5,
+    }
+}
+
 /// Writes that a file can't be read.
-pub(crate) fn tell_read_fault<E: Sink>(alloc: Global, file: &str, err: &mut E) -> u8
+fn tell_read_fault<E: Sink>(alloc: Global, file: &str, err: &mut E) -> u8
     ensures read { result ≡ 3
         → Grew (E.written err.old) (E.written err.new) (read_fault_line file.now) }
     ensures write { result ≡ 4 → Rose (E.faults err.old) (E.faults err.new) }
@@ -49,7 +72,7 @@ pub(crate) fn tell_read_fault<E: Sink>(alloc: Global, file: &str, err: &mut E) -
 }
 
 /// Writes that the text is too long with a file.
-pub(crate) fn tell_too_long<E: Sink>(alloc: Global, file: &str, err: &mut E) -> u8
+fn tell_too_long<E: Sink>(alloc: Global, file: &str, err: &mut E) -> u8
     ensures line { result ≡ 1
         → Grew (E.written err.old) (E.written err.new) (file.now ++ codes ": TooLong\n") }
     ensures write { result ≡ 4 → Rose (E.faults err.old) (E.faults err.new) }
@@ -65,8 +88,30 @@ pub(crate) fn tell_too_long<E: Sink>(alloc: Global, file: &str, err: &mut E) -> 
     }
 }
 
+/// Writes the refusal at which a walk ended, if it did at one.
+pub(crate) fn tell_walk<E: Sink>(
+    alloc: Global,
+    names: &[Text],
+    joined: &Joined,
+    walked: Result<(), Stop>,
+    err: &mut E,
+) -> u8
+    requires { IsJoinedOfSome names.now joined.now }
+    ensures told { TellsWalk names.now joined.now walked result (E.written err.old)
+        (E.written err.new) }
+    ensures write { result ≡ 4 → IsErrOf walked Stop.Fault ⊎ Rose (E.faults err.old) (E.faults err.new) }
+    ensures later { E.faults err.old ≤ E.faults err.new }
+{
+    match walked {
+        Ok(()) => 0,
+        Err(Stop::Refused(placed)) => tell_refusal(alloc, names, joined, &placed, err),
+        Err(Stop::Fault) => 4,
+        Err(Stop::Memory) => 5,
+    }
+}
+
 /// Writes a refusal with its place.
-pub(crate) fn tell_refusal<E: Sink>(
+fn tell_refusal<E: Sink>(
     alloc: Global,
     names: &[Text],
     joined: &Joined,
@@ -74,9 +119,9 @@ pub(crate) fn tell_refusal<E: Sink>(
     err: &mut E,
 ) -> u8
     requires { IsJoinedOfSome names.now joined.now }
-    ensures line { result ≡ 1 → (held : List File) (end : End Refusal) → AreNames names.now held
-        → IsJoinedOf held joined.now → TellsEnd end placed.now
-        → Grew (E.written err.old) (E.written err.new) (check_line held end) }
+    ensures line { result ≡ 1 → (held : List File) → AreNames names.now held
+        → IsJoinedOf held joined.now
+        → Grew (E.written err.old) (E.written err.new) (placed_line held placed.now) }
     ensures write { result ≡ 4 → Rose (E.faults err.old) (E.faults err.new) }
     ensures later { E.faults err.old ≤ E.faults err.new }
     ensures status { (result ≡ 1) ⊎ (result ≡ 4) ⊎ (result ≡ 5) }

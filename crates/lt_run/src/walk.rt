@@ -1,39 +1,21 @@
-//! The walk through a text: its items are added and reported one after another.
+//! The walk of `check` through a text: its items are added and reported one after another.
 ghost use Rattle.std.specs.Prelude.{◌≡◌, ◌∷◌, ◌++◌, [], List, OnOk, OnErr, encode_utf8_all, map};
 ghost use Rattle.lt_definitions.specs.Printing.{summary_line, count_line};
 ghost use Rattle.lt_hol.specs.declared.item.Item.{Item as Stated};
 ghost use Rattle.lt_hol.specs.Items.{item_of};
 ghost use Rattle.lt_io.specs.Written.{Grew, GrewByFront};
 ghost use Rattle.lt_extend.specs.Theories.{items_of, IsInStep};
-ghost use Rattle.lt_run.specs.Walked.{CutByCause, IsNoRefusal, IsStop, IsWalked};
+ghost use Rattle.lt_session.specs.Running.{CutByCause, IsNoRefusal};
+ghost use Rattle.lt_run.specs.Walked.{IsWalked};
 
-use crate::counts::count;
 use lt_extend::Theory;
-use lt_hol::{Item, Memory};
-use lt_io::{Sink, write_all};
-use lt_plain::{Placed, Refusal, next_item, open_plain, summary_line};
+use lt_hol::Item;
+use lt_io::Sink;
+use lt_plain::{next_item, open_plain, summary_line};
+use lt_session::{Stop, count, stop_of, write_piece};
 use lt_store::TermStore;
 use lt_syntax::count_line;
 use std::alloc::Global;
-
-/// What kept a walk from accepting all: something is refused, a write failed, or memory ran out.
-#[derive(Debug, Drop)]
-pub(crate) enum Stop {
-    Refused(Placed),
-    Fault,
-    Memory,
-}
-
-impl From<Memory> for Stop {
-    ghost use Rattle.std.specs.Prelude.{◌≡◌};
-    ghost use Rattle.lt_run.specs.declared.walk.Stop.TheVariants.{Memory as OutOfMemory};
-
-    ghost from_gives = { λ _ e. e ≡ OutOfMemory };
-
-    fn from(_memory: Memory) -> Stop {
-        Stop::Memory
-    }
-}
 
 /// Walks through a text with a theory without items. Each accepted item is added, and its summary
 /// line is written at once; where all were accepted the line of counts is written too.
@@ -63,19 +45,6 @@ pub(crate) fn walk_text<S: TermStore, O: Sink>(
             Ok(()) => {}
             Err(stop) => return Err(stop),
         }
-    }
-}
-
-/// What a refusal with its place is to a walk.
-fn stop_of(placed: Placed) -> Stop
-    ensures { IsStop placed result }
-{
-    match placed.refusal {
-        Refusal::Memory => Stop::Memory,
-        refusal => Stop::Refused(Placed {
-            refusal,
-            at: placed.at,
-        }),
     }
 }
 
@@ -121,17 +90,4 @@ fn finish<O: Sink>(alloc: Global, items: &[Item], out: &mut O) -> Result<(), Sto
     let counts = count(items);
     let line = count_line(alloc, counts.items, counts.axioms, counts.lemmas)?;
     write_piece(out, line.as_bytes())
-}
-
-/// Writes a piece whole, or a front of it.
-fn write_piece<O: Sink>(out: &mut O, piece: &[u8]) -> Result<(), Stop>
-    ensures all { OnOk result (Grew (O.written out.old) (O.written out.new) piece.now) }
-    ensures front { OnErr result (GrewByFront (O.written out.old) (O.written out.new) piece.now) }
-    ensures written { IsNoRefusal result }
-    ensures cause { CutByCause (O.faults out.old) (O.faults out.new) result }
-{
-    match write_all(out, piece) {
-        Ok(()) => Ok(()),
-        Err(_) => Err(Stop::Fault),
-    }
 }

@@ -1,4 +1,4 @@
-use Rattle.std.proofs.Common.{◌∙◌, ap, arith, inl, inr}
+use Rattle.std.proofs.Common.{arith, inl, inr}
 use Rattle.lt_run.proofs.InFiles.{at_first, at_next, at_index, at_inside, lengths_many, found_by}
 use Rattle.lt_run.proofs.Lines.{names-some}
 use Rattle.lt_run.proofs.places.find_place.Goals as goal

@@ -1,4 +1,4 @@
-use Rattle.std.proofs.Common.{◌≡◌, List, ◌-◌, length}
+use Rattle.std.proofs.Common.{List, ◌-◌, length}
 use Rattle.lt_texts.specs.Files.{File}
 use Rattle.lt_run.specs.Joining.{IsJoinedOf}
 use Rattle.lt_run.specs.Places.{AreNames}
