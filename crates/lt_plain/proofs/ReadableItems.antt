@@ -1,5 +1,5 @@
 -- The items that a walk of `check` accepts are readable.
-use Rattle.std.proofs.Common.{◌≡◌, ◌⊎◌, inl, inr, ℕ, ◌+◌, ◌<◌, ◌≤◌, ◌∙◌, ap, sym, refl, subst, List, [], ◌∷◌, ◌++◌, length, arith}
+use Rattle.std.proofs.Common.{◌≡◌, ◌⊎◌, inl, inr, ℕ, ◌<◌, ◌≤◌, ◌∙◌, ap, sym, refl, subst, List, [], ◌∷◌, ◌++◌, length, arith}
 use Rattle.std.specs.Prelude.{◌^◌, encode_utf8_all}
 use Rattle.std.proofs.lemmas.Bool.{ltb-true}
 use Rattle.lt_definitions.specs.Items.{Item, Context, empty}

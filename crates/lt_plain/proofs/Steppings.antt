@@ -1,5 +1,5 @@
 -- Steps of the walk through a plain text.
-use Rattle.std.proofs.Common.{◌≡◌, ◌⊎◌, inl, inr, ℕ, List, [], ◌∷◌, ◌++◌, map, Bool, true, false, Option, Some, None, Result, Ok, Err, refl, sym, ◌∙◌, ap, subst, chars, codes}
+use Rattle.std.proofs.Common.{◌≡◌, ◌⊎◌, inl, inr, ℕ, List, [], ◌∷◌, ◌++◌, Ok, Err, refl, sym, ◌∙◌, ap, subst, chars, codes}
 use Rattle.std.proofs.lemmas.List.{map-append}
 use Rattle.lt_definitions.specs.Items as theory
 use Rattle.lt_definitions.specs.Items.{Context}
@@ -10,25 +10,25 @@ use Rattle.lt_hol.specs.Items.{item_of}
 use Rattle.lt_texts.specs.Texts.{Left, left_of}
 use Rattle.lt_texts.specs.Commands.{Command, item_command}
 use Rattle.lt_texts.specs.Forms.{Form, plain_text, header_text, item_words, a_command, IsAllowed, HasPlainItems}
-use Rattle.lt_texts.specs.WrongPlaces.{Wrong, Stands, AtEnd, FailsAt, HeaderFailsAt}
+use Rattle.lt_texts.specs.WrongPlaces.{Stands, AtEnd}
 use Rattle.lt_texts.specs.CommandPlaces.{NextPlaced}
 use Rattle.lt_commands.specs.Views.{command_of}
 use Rattle.lt_script.specs.Scripts.{Begun, begun_of, form_in, headed}
 use Rattle.lt_script.specs.Openings.{allowed_words}
-use Rattle.lt_script.specs.Promises.{as_wrong, Refuses, RefusesHeader}
+use Rattle.lt_script.specs.Promises.{Refuses, RefusesHeader}
 use Rattle.lt_script.specs.declared.form.Allowed.TheVariants as kinds
 use Rattle.lt_script.specs.declared.read_error.ReadError.{ReadError}
 use Rattle.lt_script.specs.declared.read_error.ReadError.TheVariants as errors
 use Rattle.lt_script.specs.declared.spanned.Spanned.{Spanned}
 use Rattle.lt_extend.specs.Theories.{items_of, context_behind}
 use Rattle.lt_syntax.proofs.Ascii.{chars-ascii, ascii}
-use Rattle.lt_walks.specs.Walks.{End, accepted, unread, refused, wrong_header, EndsThere, place_of}
-use Rattle.lt_walks.specs.PlainWalks.{plain_items, line_of, RefusesItem as Refused, ChecksText}
+use Rattle.lt_walks.specs.Walks.{End, accepted, unread, refused, wrong_header, place_of}
+use Rattle.lt_walks.specs.PlainWalks.{line_of, ChecksText}
 use Rattle.lt_walks.proofs.OnTheWay.{ComesTo, begun, goes_on, ends, header_ends, has_end}
 use Rattle.lt_walks.proofs.PlainWalkLemmas.{accepted_text, texts_accept, each_text_check}
 use Rattle.lt_commands.specs.declared.refusal.Refusal.TheVariants.{Memory}
 use Rattle.lt_commands.specs.declared.refusal.Placed.{Placed}
-use Rattle.lt_plain.specs.Telling.{as_placed, Tells, TellsEnd, IsChecked}
+use Rattle.lt_plain.specs.Telling.{TellsEnd, IsChecked}
 use Rattle.lt_plain.specs.Placing.{IsPlacedError}
 use Rattle.lt_plain.specs.Stepping as steps
 use Rattle.lt_plain.specs.Stepping.{IsPlain, RefusesItem, AddsSpanned, IsNext, Steps, StopsAt}

@@ -1,7 +1,7 @@
 -- What kept a text from being read on, with its place.
 use Rattle.std.specs.Prelude.{◌≡◌}
 use Rattle.lt_script.specs.declared.read_error.ReadError.{ReadError}
-use Rattle.lt_script.specs.declared.read_error.ReadError.TheVariants.{BadHeader, BadCommand, Syntax, BadByte, BadChar, Memory as NoMemory}
+use Rattle.lt_script.specs.declared.read_error.ReadError.TheVariants.{Memory as NoMemory}
 use Rattle.lt_script.specs.Promises.{as_wrong}
 use Rattle.lt_commands.specs.declared.refusal.Refusal.TheVariants.{Memory}
 use Rattle.lt_commands.specs.declared.refusal.Placed.{Placed}

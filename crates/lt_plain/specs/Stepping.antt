@@ -5,7 +5,7 @@ use Rattle.lt_definitions.specs.Theory as refusals
 use Rattle.lt_definitions.specs.Theory.{refusal}
 use Rattle.lt_hol.specs.declared.item.Item.{Item}
 use Rattle.lt_hol.specs.Items.{item_of}
-use Rattle.lt_texts.specs.Texts.{Left, left_of}
+use Rattle.lt_texts.specs.Texts.{Left}
 use Rattle.lt_texts.specs.Commands.{Command, item_command}
 use Rattle.lt_texts.specs.Forms.{plain_text}
 use Rattle.lt_texts.specs.WrongPlaces.{Wrong, AtEnd, HeaderFailsAt}
@@ -16,7 +16,7 @@ use Rattle.lt_script.specs.Scripts.{Begun}
 use Rattle.lt_script.specs.declared.spanned.Spanned.{Spanned}
 use Rattle.lt_conditions.specs.declared.item_fault.ItemFault.{ItemFault}
 use Rattle.lt_conditions.specs.Refusing.{Refuses}
-use Rattle.lt_extend.specs.Theories.{Holding, context_behind, IsInStep}
+use Rattle.lt_extend.specs.Theories.{Holding, context_behind}
 use Rattle.lt_walks.specs.Walks.{End, EndsThere, place_of}
 use Rattle.lt_walks.specs.PlainWalks.{plain_items, line_of}
 use Rattle.lt_commands.specs.declared.refusal.Refusal.TheVariants.{Memory}

@@ -5,10 +5,8 @@ use Rattle.lt_definitions.specs.Items as theory
 use Rattle.lt_definitions.specs.Theory as refusals
 use Rattle.lt_definitions.specs.Theory.{at_fault, not_boolean, unknown_statement, duplicate, open_term, loose_type_var, typedef_shape, in_line, bad_line, not_proved, IsPlainTheory}
 use Rattle.lt_nameless.specs.Nameless.{NamelessSequent, nameless_sequent}
-use Rattle.lt_hol.specs.declared.item.Item.{Item}
 use Rattle.lt_texts.specs.Forms.{HasPlainItems}
 use Rattle.lt_texts.specs.WrongPlaces.{Wrong, bad_header, bad_command, bad_syntax, bad_byte, bad_char}
-use Rattle.lt_extend.specs.Theories.{items_of}
 use Rattle.lt_walks.specs.Walks.{End, accepted, too_long, wrong_header, unread, refused}
 use Rattle.lt_walks.specs.PlainWalks.{ChecksText}
 use Rattle.lt_commands.specs.declared.refusal.SequentTerms.{SequentTerms}

@@ -53,10 +53,10 @@ fn write_refusal(alloc: Global, text: &mut Text, refusal: &Refusal) -> Result<()
         Refusal::BadLine(number, reason) => Ok(write_bad_line(text, *number, *reason)?),
         Refusal::NotProved(last) => Ok(write_not_proved(alloc, text, last)?),
         Refusal::TypedefShape => Ok(text.signs("TypedefShape")?),
-        Refusal::RelatorShape(part) => Ok(write_relator_shape(text, *part)?),
-        Refusal::PropertyShape(part) => Ok(write_property_shape(text, *part)?),
+        Refusal::RelatorShape(part) => Ok(write_relator_shape(text, "RelatorShape", *part)?),
+        Refusal::PropertyShape(part) => Ok(write_property_shape(text, "PropertyShape", *part)?),
         Refusal::DuplicateProperty(property, head) => {
-            Ok(write_duplicate_property(text, *property, head)?)
+            Ok(write_property_of(text, "DuplicateProperty", *property, head)?)
         }
         Refusal::DomainShape => Ok(text.signs("DomainShape")?),
         Refusal::RuleShape(part) => Ok(write_rule_shape(text, *part)?),
@@ -144,13 +144,20 @@ fn write_term_of(alloc: Global, text: &mut Text, word: &str, term: &Term) -> Res
     Ok(write_term(alloc, text, term)?)
 }
 
-/// Adds the part of a relator that fails.
-fn write_relator_shape(text: &mut Text, part: RelatorPart) -> Result<(), Memory>
-    ensures { OnOk result (text.new
-        ≡ text.old ++ (codes "RelatorShape" ++ (codes " " ++ relator_part part))) }
+/// Adds the part of a relator that fails, behind the word.
+fn write_relator_shape(text: &mut Text, word: &str, part: RelatorPart) -> Result<(), Memory>
+    requires { are_ascii word.now ≡ true }
+    ensures { OnOk result (text.new ≡ text.old ++ (word.now ++ (codes " " ++ relator_part part))) }
 {
-    text.signs("RelatorShape")?;
+    text.signs(word)?;
     text.signs(" ")?;
+    Ok(write_relator_part(text, part)?)
+}
+
+/// Adds a part of a relator.
+fn write_relator_part(text: &mut Text, part: RelatorPart) -> Result<(), Memory>
+    ensures { OnOk result (text.new ≡ text.old ++ relator_part part) }
+{
     match part {
         RelatorPart::Corr => Ok(text.signs("Corr")?),
         RelatorPart::K => Ok(text.signs("K")?),
@@ -162,13 +169,20 @@ fn write_relator_shape(text: &mut Text, part: RelatorPart) -> Result<(), Memory>
     }
 }
 
-/// Adds the part of a property's statement that fails.
-fn write_property_shape(text: &mut Text, part: PropertyPart) -> Result<(), Memory>
-    ensures { OnOk result (text.new
-        ≡ text.old ++ (codes "PropertyShape" ++ (codes " " ++ property_part part))) }
+/// Adds the part of a property's statement that fails, behind the word.
+fn write_property_shape(text: &mut Text, word: &str, part: PropertyPart) -> Result<(), Memory>
+    requires { are_ascii word.now ≡ true }
+    ensures { OnOk result (text.new ≡ text.old ++ (word.now ++ (codes " " ++ property_part part))) }
 {
-    text.signs("PropertyShape")?;
+    text.signs(word)?;
     text.signs(" ")?;
+    Ok(write_property_part(text, part)?)
+}
+
+/// Adds a part of a property's statement.
+fn write_property_part(text: &mut Text, part: PropertyPart) -> Result<(), Memory>
+    ensures { OnOk result (text.new ≡ text.old ++ property_part part) }
+{
     match part {
         PropertyPart::Prefix => Ok(text.signs("Prefix")?),
         PropertyPart::Premise => Ok(text.signs("Premise")?),
@@ -206,12 +220,18 @@ fn write_not_quotient(text: &mut Text, part: QuotientPart) -> Result<(), Memory>
     }
 }
 
-/// Adds the property and the head that have a rule already.
-fn write_duplicate_property(text: &mut Text, property: Property, head: &Name) -> Result<(), Memory>
-    ensures { OnOk result (text.new ≡ text.old ++ (codes "DuplicateProperty" ++ (codes " "
+/// Adds a word, a property and a head.
+fn write_property_of(
+    text: &mut Text,
+    word: &str,
+    property: Property,
+    head: &Name,
+) -> Result<(), Memory>
+    requires { are_ascii word.now ≡ true }
+    ensures { OnOk result (text.new ≡ text.old ++ (word.now ++ (codes " "
         ++ (property_word property ++ (codes " " ++ head.now))))) }
 {
-    text.signs("DuplicateProperty")?;
+    text.signs(word)?;
     text.signs(" ")?;
     write_property(text, property)?;
     text.signs(" ")?;
