@@ -8,3 +8,4 @@ pub mod Told
 pub mod Asking
 pub mod OneRun
 pub mod Sures
+pub mod Reports

@@ -5,3 +5,4 @@ pub mod Walked
 pub mod Endings
 pub mod Runs
 pub mod Outcomes
+pub mod Reports

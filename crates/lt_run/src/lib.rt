@@ -5,6 +5,7 @@ mod asked;
 mod check;
 mod ended;
 mod files;
+pub mod laws;
 mod places;
 mod report;
 mod run;
