@@ -1,5 +1,5 @@
 -- Rules that stand where their heads tell it.
-use Rattle.std.proofs.Common.{◌≡◌, ◌∙◌, ◌⊎◌, inl, inr, ℕ, zero, suc, ◌+◌, List, [], ◌∷◌, ◌++◌, length, take, find, slice_get, Bool, true, false, ◌&&◌, Option, Some, None, if◌then◌else◌, refl, sym, ap, subst, arith, codes, nat_eq, option_map}
+use Rattle.std.proofs.Common.{◌≡◌, ◌∙◌, ◌⊎◌, inl, inr, ℕ, zero, suc, List, [], ◌∷◌, ◌++◌, length, take, find, slice_get, Bool, true, false, ◌&&◌, Option, Some, None, if◌then◌else◌, refl, sym, ap, subst, codes, nat_eq}
 use Rattle.std.specs.Cmp.Lexicographic.{pointwise}
 use Rattle.std.proofs.lemmas.Bool.{cond-true, cond-false}
 use Rattle.std.proofs.lemmas.Option.{same_Some, none-some}
@@ -164,7 +164,7 @@ placed-before heads rules rule old new place h n o w i r e =
         cond-true (same_name r.head rule.head) (place_in new r.property) (place_of heads r.property r.head) s
         ∙ w r.property
         ∙ cond-false (same_name (property_name rule.property) (property_name r.property)) (Some place) (place_in old r.property)
-            (first-false (same_name (property_name rule.property) (property_name r.property)) (same_name rule.head r.head) other (true-name rule.head r.head (sym same)))
+        (first-false (same_name (property_name rule.property) (property_name r.property)) (same_name rule.head r.head) other (true-name rule.head r.head (sym same)))
         ∙ o r.property ∙ ap (place_of heads r.property) (sym same) ∙ h i r e
       where
         first-false : (a b : Bool) → (a && b) ≡ false → b ≡ true → a ≡ false
@@ -187,7 +187,7 @@ placed-more heads rules rule old new place h n w i r e = elim (slice-last rules 
         ∙ cond-true (same_name rule.head rule.head) (place_in new rule.property) (place_of heads rule.property rule.head) (true-name rule.head rule.head refl)
         ∙ w rule.property
         ∙ cond-true (same_name (property_name rule.property) (property_name rule.property)) (Some place) (place_in old rule.property)
-            (true-name (property_name rule.property) (property_name rule.property) refl)
+        (true-name (property_name rule.property) (property_name rule.property) refl)
         ∙ ap Some (n ∙ sym m)
 
 pub placed-same : (heads later : List (Chars × Places)) (rules kept : List PropertyRule) → later ≡ heads → kept ≡ rules → ArePlaced heads rules → ArePlaced later kept

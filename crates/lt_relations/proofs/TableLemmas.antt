@@ -1,5 +1,5 @@
 -- Tables under keys, and the lists that they are told as.
-use Rattle.std.proofs.Common.{◌≡◌, ◌∙◌, ℕ, zero, suc, List, [], ◌∷◌, ◌++◌, map, take, find, Bool, true, false, ◌||◌, Option, Some, None, option_map, is_some, if◌then◌else◌, refl, sym, ap, subst}
+use Rattle.std.proofs.Common.{◌≡◌, ◌∙◌, ℕ, zero, suc, List, [], ◌∷◌, ◌++◌, map, take, find, Bool, true, false, ◌||◌, Option, Some, None, option_map, if◌then◌else◌, refl, sym, ap, subst}
 use Rattle.std.proofs.lemmas.Bool.{cond-true, cond-false}
 use Rattle.std.specs.List.{list_any, flat_map}
 use Rattle.std.proofs.lemmas.List.{take-map}
@@ -8,11 +8,8 @@ use Rattle.lt_definitions.specs.Types.{Chars, same_name, found}
 use Rattle.lt_hol.specs.declared.property.Property.{Property}
 use Rattle.lt_transport_definitions.specs.Relations.{Registry, Parametrised, correspondence_of, form_named}
 use Rattle.lt_transport_definitions.specs.Answers.{given}
-use Rattle.lt_relations.specs.declared.entries.Relator.{Relator}
-use Rattle.lt_relations.specs.declared.entries.Correspondence.{Correspondence}
 use Rattle.lt_relations.specs.declared.entries.Param.{Param}
 use Rattle.lt_relations.specs.declared.entries.PropertyRule.{PropertyRule}
-use Rattle.lt_relations.specs.declared.entries.DomainRule.{DomainRule}
 use Rattle.lt_relations.specs.Told.{param_told, property_name, sides_told, property_rule_told}
 use Rattle.lt_relations.specs.Places.{has_premise}
 use Rattle.lt_relations.specs.Tables.{things_told, AreKeyed}
@@ -87,7 +84,7 @@ pub form-found : (x : Chars) (forms : List (Chars × Param)) (G : Registry) → 
     → (given (found x (map (λ e. (e.1.name, e.1.of)) forms)) λ of. correspondence_of G of) ≡ form_named G x
 form-found x forms G h =
     ap (λ o. given o λ of. correspondence_of G of)
-        (sym (found-second (λ p. p.name) (λ p. p.of) param_told (λ p. same_name x p.name) (λ p. p.of) x forms (λ p. refl) (λ p. refl)))
+    (sym (found-second (λ p. p.name) (λ p. p.of) param_told (λ p. same_name x p.name) (λ p. p.of) x forms (λ p. refl) (λ p. refl)))
     ∙ by (find (λ p. same_name x p.name) (things_told param_told forms))
     ∙ ap (λ fs. given (find (λ p. same_name x p.name) fs) λ p. correspondence_of G p.of) h
   where

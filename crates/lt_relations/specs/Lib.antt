@@ -3,3 +3,4 @@ pub mod Told
 pub mod Tables
 pub mod Places
 pub mod Registries
+pub mod Registering

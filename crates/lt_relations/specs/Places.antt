@@ -1,5 +1,5 @@
 -- Where the property rules of a head stand.
-use Rattle.std.specs.Prelude.{◌≡◌, ℕ, List, Bool, ◌&&◌, Option, Some, None, slice_get}
+use Rattle.std.specs.Prelude.{◌≡◌, ℕ, List, Bool, ◌&&◌, Option, Some, slice_get}
 use Rattle.std.specs.List.{list_any}
 use Rattle.lt_definitions.specs.Types.{Chars, same_name, found}
 use Rattle.lt_hol.specs.declared.property.Property.{Property}

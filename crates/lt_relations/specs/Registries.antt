@@ -1,5 +1,5 @@
 -- The registry that is kept, what a name is in it, and how it is cut.
-use Rattle.std.specs.Prelude.{◌≡◌, ℕ, List, [], Bool, Option, map, codes, take, option_map, unwrap_or}
+use Rattle.std.specs.Prelude.{◌≡◌, List, [], Bool, Option, map, codes, take, option_map, unwrap_or}
 use Rattle.std.specs.List.{list_any, flat_map}
 use Rattle.lt_definitions.specs.Types.{Chars, same_name, bool}
 use Rattle.lt_definitions.specs.Typing.{earlier}

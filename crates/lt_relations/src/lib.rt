@@ -3,6 +3,7 @@
 
 mod entries;
 mod property_rules;
+mod registering;
 mod rel_fault;
 mod relations;
 mod table;

@@ -141,7 +141,9 @@ impl PropertyRules {
     pub(crate) fn need(&self, property: Property) -> bool
         ensures { result ≡ list_any (λ r. has_premise property r.premises) self.now }
     {
-        self.rules.iter().any(|rule| has_premise(&rule.premises, property))
+        self.rules
+            .iter()
+            .any(|rule| has_premise(&rule.premises, property))
     }
 
     /// Drops the rules behind the first so many.

@@ -62,7 +62,7 @@ pub struct RelationsMark {
 }
 
 /// What a name is as a relation constructor.
-#[derive(Debug)]
+#[derive(Clone, Copy, Debug)]
 pub enum Kind<'a> {
     /// It is none.
     NoConstructor,

@@ -1,9 +1,8 @@
-use Rattle.std.proofs.Common.{◌∙◌, ap, sym, refl, find, option_map}
+use Rattle.std.proofs.Common.{◌∙◌, ap, sym}
 use Rattle.std.specs.Option.{option_copied}
-use Rattle.lt_definitions.specs.Types.{same_name, found}
+use Rattle.lt_definitions.specs.Types.{found}
 use Rattle.lt_transport_definitions.specs.Answers.{given}
 use Rattle.lt_transport_definitions.specs.Relations.{Registry, correspondence_of}
-use Rattle.lt_relations.specs.Told.{param_told}
 use Rattle.lt_relations.proofs.TableLemmas.{form-found}
 use Rattle.lt_relations.proofs.relations.Relations.form_named.Goals as goal
 

@@ -1,4 +1,4 @@
-use Rattle.std.proofs.Common.{◌≡◌, ◌∙◌, ◌∷◌, ◌++◌, [], ap, sym, map, is_some, List}
+use Rattle.std.proofs.Common.{◌∙◌, ◌∷◌, ◌++◌, [], ap, map, is_some}
 use Rattle.lt_definitions.specs.Types.{found}
 use Rattle.lt_relations.specs.Told.{relator_told, correspondence_told, param_told, property_rule_told, domain_rule_told}
 use Rattle.lt_relations.specs.Tables.{things_told}
