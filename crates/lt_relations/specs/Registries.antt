@@ -17,7 +17,8 @@ use Rattle.lt_relations.specs.Told.{relator_told, correspondence_told, param_tol
 use Rattle.lt_relations.specs.Tables.{things_told, AreKeyed}
 
 -- the registry of tables, by the definitions
-abbrev pub registry_told : List (Chars × Relator) → List (Chars × Correspondence) → List (Chars × Param) → List PropertyRule → List (Chars × DomainRule) → Registry
+abbrev pub registry_told : List (Chars × Relator) → List (Chars × Correspondence)
+    → List (Chars × Param) → List PropertyRule → List (Chars × DomainRule) → Registry
 registry_told relators correspondences forms property_rules domain_rules = record {
   relators = things_told relator_told relators;
   correspondences = things_told correspondence_told correspondences;
@@ -28,7 +29,10 @@ registry_told relators correspondences forms property_rules domain_rules = recor
 
 -- The tables agree with one another: each thing stands under its key, and what has a second name
 -- is known by it.
-pub record AreKept (fun_name rel_fun_name : Chars) (relators : List (Chars × Relator)) (relator_types : List (Chars × Chars)) (correspondences : List (Chars × Correspondence)) (forms : List (Chars × Param)) (form_of : List (Chars × Chars)) (domain_rules : List (Chars × DomainRule)) : Type 0 where
+pub record AreKept (fun_name rel_fun_name : Chars) (relators : List (Chars × Relator))
+    (relator_types : List (Chars × Chars)) (correspondences : List (Chars × Correspondence))
+    (forms : List (Chars × Param)) (form_of : List (Chars × Chars))
+    (domain_rules : List (Chars × DomainRule)) : Type 0 where
   pub functions : fun_name ≡ codes "fun"
   pub function_relator : rel_fun_name ≡ function_relator_name
   pub by_type : AreKeyed (λ r. r.con) relators
@@ -40,7 +44,8 @@ pub record AreKept (fun_name rel_fun_name : Chars) (relators : List (Chars × Re
 
 -- implication, a correspondence of truth values with themselves
 abbrev pub built_in_implication : registry.Correspondence
-built_in_implication = record { name = codes "imp"; raw = bool; con = codes "bool"; parameters = [] }
+built_in_implication =
+    record { name = codes "imp"; raw = bool; con = codes "bool"; parameters = [] }
 
 -- what a name is
 abbrev pub kind_told : Kind → registry.Kind
@@ -51,7 +56,9 @@ kind_told (Form d) = a_form (correspondence_told d.now)
 
 -- what a name is that is no relator
 abbrev pub kind_without_relators : Registry → Chars → registry.Kind
-kind_without_relators G c = unwrap_or (earlier (option_map a_correspondence (correspondence_of G c)) (option_map a_form (form_named G c))) no_constructor
+kind_without_relators G c = unwrap_or (earlier
+    (option_map a_correspondence (correspondence_of G c)) (option_map a_form (form_named G c)))
+    no_constructor
 
 -- what a name is as a form
 abbrev pub kind_as_form : Option registry.Correspondence → registry.Kind

@@ -34,7 +34,8 @@ relator_told r = record {
 }
 
 abbrev pub correspondence_told : Correspondence → registry.Correspondence
-correspondence_told d = record { name = d.name; raw = d.raw; con = d.con; parameters = d.parameters }
+correspondence_told d =
+    record { name = d.name; raw = d.raw; con = d.con; parameters = d.parameters }
 
 abbrev pub param_told : Param → registry.Parametrised
 param_told p = record { name = p.name; of = p.of; eq = p.eq; defined = p.defined }

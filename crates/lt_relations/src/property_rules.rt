@@ -82,7 +82,8 @@ impl Places {
     /// The same with another place for a property.
     fn with(self, property: Property, place: usize) -> Places
         ensures { (p : Property) → place_in result p
-            ≡ (if same_name (property_name property) (property_name p) then Some place else place_in self p) }
+            ≡ (if same_name (property_name property) (property_name p) then Some place
+            else place_in self p) }
     {
         let mut places = self;
         match property {

@@ -63,8 +63,8 @@ impl Relations {
 
     /// Registers a correspondence. `Duplicate` where its name is a relation constructor already.
     pub fn add_corr(&mut self, alloc: Global, corr: Correspondence) -> Result<(), RelFault>
-        ensures { Registers (correspondence_fault self.old (correspondence_told corr)) self.old self.new
-            (with_correspondence (correspondence_told corr) self.old) result }
+        ensures { Registers (correspondence_fault self.old (correspondence_told corr)) self.old
+            self.new (with_correspondence (correspondence_told corr) self.old) result }
     {
         if self.is_constructor(&corr.name) {
             return Err(RelFault::Duplicate(corr.name.copy(alloc)?));
@@ -75,7 +75,8 @@ impl Relations {
 
     /// Registers a correspondence, unless one has its name.
     pub fn keep_corr(&mut self, alloc: Global, corr: Correspondence) -> Result<(), Memory>
-        ensures ok { OnOk result (self.new ≡ with_correspondence (correspondence_told corr) self.old) }
+        ensures ok { OnOk result
+            (self.new ≡ with_correspondence (correspondence_told corr) self.old) }
         ensures err { OnErr result (self.new ≡ self.old) }
     {
         if self.correspondences.has(&corr.name) {
@@ -159,7 +160,8 @@ impl Relations {
 
     /// Registers a property rule, unless its head has one for the property.
     pub fn keep_property(&mut self, alloc: Global, rule: PropertyRule) -> Result<(), Memory>
-        ensures ok { OnOk result (self.new ≡ with_property_rule (property_rule_told rule) self.old) }
+        ensures ok { OnOk result
+            (self.new ≡ with_property_rule (property_rule_told rule) self.old) }
         ensures err { OnErr result (self.new ≡ self.old) }
     {
         if self.property_rules.get(rule.property, &rule.head).is_some() {

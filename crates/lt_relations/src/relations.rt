@@ -46,9 +46,11 @@ impl Model for Relations {
 
     ghost coded = { Prim.hlevel (codes, coded_type, coded_term) };
 
-    ghost view = { λ r. registry_told r.relators r.correspondences r.forms r.property_rules r.domain_rules };
+    ghost view = { λ r. registry_told r.relators r.correspondences r.forms r.property_rules
+        r.domain_rules };
 
-    ghost invariant = { λ r. AreKept r.fun r.rel_fun r.relators r.relator_types r.correspondences r.forms r.form_of r.domain_rules };
+    ghost invariant = { λ r. AreKept r.fun r.rel_fun r.relators r.relator_types r.correspondences
+        r.forms r.form_of r.domain_rules };
 }
 
 /// How many registrations of each sort there are.
@@ -197,7 +199,8 @@ impl Relations {
 
     /// The correspondence whose parametrised form has the name.
     fn form_named(&self, name: &Name) -> Option<&Correspondence>
-        ensures { option_map correspondence_told (option_copied result) ≡ form_named self.now name.now }
+        ensures { option_map correspondence_told (option_copied result)
+            ≡ form_named self.now name.now }
     {
         match self.form_of.get(name) {
             Some(of) => self.correspondence_of(of),
