@@ -1,3 +1,4 @@
 pub mod TableLemmas
 pub mod PlaceLemmas
 pub mod RegisteringLemmas
+pub mod HoldingLemmas

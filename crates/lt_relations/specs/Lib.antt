@@ -4,3 +4,4 @@ pub mod Tables
 pub mod Places
 pub mod Registries
 pub mod Registering
+pub mod Holdings

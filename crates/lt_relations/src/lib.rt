@@ -2,6 +2,7 @@
 #![tactic(auto)]
 
 mod entries;
+mod holdings;
 mod property_rules;
 mod registering;
 mod rel_fault;
