@@ -10,7 +10,8 @@ use Rattle.lt_transport_definitions.specs.Expressions.{is_equality}
 use Rattle.lt_relations.specs.declared.holdings.Holding.{Holding}
 
 -- whether the rule is there, and all its premises hold
-abbrev pub rule_test : Option registry.PropertyRule → (ℕ → registry.Property → Bool) → Bool
+abbrev pub rule_test : Option registry.PropertyRule → (ℕ → registry.Property → Bool)
+    → Bool
 rule_test None holds = false
 rule_test (Some rule) holds = list_all (λ s. holds s.1 s.0) rule.premises
 

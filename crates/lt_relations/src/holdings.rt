@@ -126,7 +126,8 @@ impl Relations {
 
     /// What holds of a constructor over arguments of which so much holds.
     fn held_by(&self, name: &Name, args: &[Holding]) -> Holding
-        ensures { (ts : List TypeTree) → (rs : List Relation) → args.now ≡ map (holding self.now) rs
+        ensures { (ts : List TypeTree) → (rs : List Relation)
+            → args.now ≡ map (holding self.now) rs
             → result ≡ holding self.now (constructed name.now ts (relation_row rs)) }
     {
         let equality = self.is_equality_over(name, args);

@@ -1,11 +1,9 @@
-use Rattle.std.proofs.Common.{◌≡◌, ◌∙◌, ◌&&◌, ◌||◌, List, Bool, ap, map}
+use Rattle.std.proofs.Common.{◌≡◌, ◌∙◌, ◌&&◌, ◌||◌, Bool, ap}
 use Rattle.std.specs.List.{list_all}
 use Rattle.std.proofs.Common.{codes}
-use Rattle.lt_hol.specs.declared.property.Property.{Property}
-use Rattle.lt_transport_definitions.specs.Relations.{Relation, constructed, relation_row, property_rule_for, kind_of}
+use Rattle.lt_transport_definitions.specs.Relations.{constructed, relation_row, property_rule_for, kind_of}
 use Rattle.lt_transport_definitions.specs.Expressions.{is_equality, is_relator}
-use Rattle.lt_relations.specs.Told.{property_name}
-use Rattle.lt_relations.specs.Holdings.{holding, rule_test, side_test_at}
+use Rattle.lt_relations.specs.Holdings.{rule_test, side_test_at}
 use Rattle.lt_relations.proofs.HoldingLemmas.{equalities-told}
 use Rattle.lt_relations.proofs.relations.Relations.held_by.Goals as goal
 

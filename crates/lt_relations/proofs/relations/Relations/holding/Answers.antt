@@ -1,10 +1,7 @@
-use Rattle.std.proofs.Common.{◌≡◌, ◌∙◌, ◌≤◌, ◌∷◌, [], ap, subst, sym, map, length, arith}
-use Rattle.std.proofs.lemmas.List.{length-map}
-use Rattle.lt_expressions.specs.declared.rel.RelNode.{RelNode}
-use Rattle.lt_expressions.specs.Layout.{arguments, forest, first}
+use Rattle.std.proofs.Common.{◌≡◌, ◌∙◌, ◌∷◌, [], ap, sym, map, length}
 use Rattle.lt_expressions.proofs.LayoutLemmas.{step, whole, IsStep}
 use Rattle.lt_relations.specs.Holdings.{holding}
-use Rattle.lt_relations.proofs.HoldingLemmas.{room-count, made-count, one-made}
+use Rattle.lt_relations.proofs.HoldingLemmas.{made-count, one-made}
 use Rattle.lt_relations.proofs.relations.Relations.holding.Goals as goal
 
 here : (c : goal.After-node-item) → IsStep c.nodes-node-items.result.now c.loop-node.node-index c.node-item.result

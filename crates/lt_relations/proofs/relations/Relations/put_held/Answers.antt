@@ -1,6 +1,4 @@
 use Rattle.std.proofs.Common.{◌≡◌, ◌∙◌, ◌-◌, ◌++◌, ◌∷◌, [], ap, take, drop, length}
-use Rattle.lt_transport_definitions.specs.Relations.{constructed, relation_row}
-use Rattle.lt_relations.specs.Holdings.{holding}
 use Rattle.lt_relations.proofs.HoldingLemmas.{joined-told, dropped-told}
 use Rattle.lt_relations.proofs.relations.Relations.put_held.Goals as goal
 

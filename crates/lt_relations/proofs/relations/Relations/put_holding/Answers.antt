@@ -1,4 +1,4 @@
-use Rattle.std.proofs.Common.{◌∙◌, ◌++◌, ◌∷◌, [], ap, sym, map, false, true}
+use Rattle.std.proofs.Common.{◌∙◌, ap, sym, map, false, true}
 use Rattle.lt_expressions.specs.Layout.{grow}
 use Rattle.lt_transport_definitions.specs.Relations.{relation_variable, equality}
 use Rattle.lt_relations.specs.Holdings.{holding}
