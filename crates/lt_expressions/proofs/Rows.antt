@@ -1,0 +1,85 @@
+-- Expressions that lie one after another.
+use Rattle.std.proofs.Common.{◌≡◌, ℕ, ◌+◌, ◌-◌, ◌≤◌, List, [], ◌∷◌, ◌++◌, length, take, drop, sym, ◌∙◌, ap, subst, arith, append_assoc, append-nil}
+use Rattle.std.proofs.lemmas.List.{take-append-drop, length-take-le}
+use Rattle.std.proofs.Math.Seq.{take-append_seam, drop-append_seam}
+use Rattle.lt_expressions.specs.declared.rel.RelNode.{RelNode}
+use Rattle.lt_expressions.specs.declared.rel.RelNode.TheVariants.{Con}
+use Rattle.lt_definitions.specs.Types.{Chars, TypeTree}
+use Rattle.lt_transport_definitions.specs.Relations.{Relation, constructed, relation_row}
+use Rattle.lt_expressions.specs.Layout.{below, sizes, relation_size, roots, relation_nodes, row_nodes, forest, IsRow}
+use Rattle.lt_expressions.proofs.LayoutLemmas.{list-row, length-roots, length-row_nodes, forest-row_nodes}
+
+sizes-append : (f g : List Relation) → sizes (relation_row (f ++ g)) ≡ sizes (relation_row f) + sizes (relation_row g)
+sizes-append [] g = omega arith
+sizes-append (t ∷ f) g = omega (arith, sizes-append f g)
+
+all-append : (from : ℕ) (f g : List Relation) → row_nodes from (relation_row (f ++ g)) ≡ row_nodes from (relation_row f) ++ row_nodes (from + sizes (relation_row f)) (relation_row g)
+all-append from [] g = let e : from ≡ from + 0 = omega arith in ap (λ n. row_nodes n (relation_row g)) e
+all-append from (t ∷ f) g =
+    let e : (from + relation_size t) + sizes (relation_row f) ≡ from + (relation_size t + sizes (relation_row f)) = omega arith in
+    ap (λ ns. relation_nodes from t ++ ns) (all-append (from + relation_size t) f g ∙ ap (λ n. row_nodes (from + relation_size t) (relation_row f) ++ row_nodes n (relation_row g)) e)
+    ∙ sym (append_assoc (relation_nodes from t) (row_nodes (from + relation_size t) (relation_row f)) (row_nodes (from + (relation_size t + sizes (relation_row f))) (relation_row g)))
+
+roots-append : (from : ℕ) (f g : List Relation) → roots from (relation_row (f ++ g)) ≡ roots from (relation_row f) ++ roots (from + sizes (relation_row f)) (relation_row g)
+roots-append from [] g = let e : from ≡ from + 0 = omega arith in ap (λ n. roots n (relation_row g)) e
+roots-append from (t ∷ f) g =
+    let e : (from + relation_size t) + sizes (relation_row f) ≡ from + (relation_size t + sizes (relation_row f)) = omega arith in
+    ap (λ ns. (from + below t) ∷ ns) (roots-append (from + relation_size t) f g ∙ ap (λ n. roots (from + relation_size t) (relation_row f) ++ roots n (relation_row g)) e)
+
+pub length-row : (nodes : List RelNode) (places : List ℕ) (made : List Relation) → IsRow nodes places made → length places ≡ length made
+length-row nodes places made h = ap length h.at ∙ length-roots 0 (relation_row made) ∙ ap length (list-row made)
+
+pub row-reads : (nodes : List RelNode) (places : List ℕ) (made : List Relation) → IsRow nodes places made → forest [] nodes ≡ made
+row-reads nodes places made h =
+    ap (forest []) (h.laid ∙ sym (append-nil (row_nodes 0 (relation_row made)))) ∙ forest-row_nodes 0 (relation_row made) [] [] ∙ list-row made
+
+pub row-again : (nodes : List RelNode) (places : List ℕ) (made : List Relation) → IsRow nodes places made → IsRow nodes places (forest [] nodes)
+row-again nodes places made h = subst (λ (r : List Relation). IsRow nodes places r) (sym (row-reads nodes places made h)) h
+
+-- one more without arguments
+pub row-leaf : (nodes more_nodes : List RelNode) (places more_places : List ℕ) (made : List Relation) (leaf : RelNode) (r : Relation) (n : ℕ) → IsRow nodes places made → n ≡ length nodes
+    → ((from : ℕ) → relation_nodes from r ≡ leaf ∷ []) → below r ≡ 0
+    → more_places ≡ places ++ n ∷ [] → more_nodes ≡ nodes ++ leaf ∷ [] → IsRow more_nodes more_places (made ++ r ∷ [])
+row-leaf nodes more_nodes places more_places made leaf r n h e one none p q = record {
+  laid = q ∙ (λ i. h.laid i ++ sym (one (0 + sizes (relation_row made))) i) ∙ ap (λ ns. row_nodes 0 (relation_row made) ++ ns) (sym (append-nil (relation_nodes (0 + sizes (relation_row made)) r)))
+      ∙ sym (all-append 0 made (r ∷ []));
+  at = p ∙ (λ i. h.at i ++ whole i ∷ []) ∙ sym (roots-append 0 made (r ∷ []));
+}
+  where
+    whole : n ≡ (0 + sizes (relation_row made)) + below r
+    whole = omega (arith, e, none, ap length h.laid, length-row_nodes 0 (relation_row made))
+
+-- the last expressions become arguments
+joined : (nodes more_nodes : List RelNode) (places more_places ids kept : List ℕ) (f g : List Relation) (name : Chars) (us : List TypeTree) (n : ℕ) → IsRow nodes places (f ++ g) → n ≡ length nodes
+    → kept ≡ take (length f) places → ids ≡ drop (length f) places
+    → more_places ≡ kept ++ n ∷ [] → more_nodes ≡ nodes ++ Con name us ids ∷ [] → IsRow more_nodes more_places (f ++ constructed name us (relation_row g) ∷ [])
+joined nodes more_nodes places more_places ids kept f g name us n h e k d p q = record {
+  laid = q ∙ (λ i. (h.laid ∙ all-append 0 f g) i ++ Con name us (tail i) ∷ []) ∙ append_assoc (row_nodes 0 (relation_row f)) (row_nodes (0 + sizes (relation_row f)) (relation_row g)) (Con name us (roots (0 + sizes (relation_row f)) (relation_row g)) ∷ []) ∙ ap (λ ns. row_nodes 0 (relation_row f) ++ ns) (sym (append-nil (relation_nodes (0 + sizes (relation_row f)) (constructed name us (relation_row g))))) ∙ sym (all-append 0 f (constructed name us (relation_row g) ∷ []));
+  at = p ∙ (λ i. front i ++ whole i ∷ []) ∙ sym (roots-append 0 f (constructed name us (relation_row g) ∷ []));
+}
+  where
+    split : places ≡ roots 0 (relation_row f) ++ roots (0 + sizes (relation_row f)) (relation_row g)
+    split = h.at ∙ roots-append 0 f g
+
+    count : length f ≡ length (roots 0 (relation_row f))
+    count = sym (length-roots 0 (relation_row f) ∙ ap length (list-row f))
+
+    tail : ids ≡ roots (0 + sizes (relation_row f)) (relation_row g)
+    tail = d ∙ (λ i. drop (count i) (split i)) ∙ drop-append_seam (roots 0 (relation_row f)) (roots (0 + sizes (relation_row f)) (relation_row g))
+
+    front : kept ≡ roots 0 (relation_row f)
+    front = k ∙ (λ i. take (count i) (split i)) ∙ take-append_seam (roots 0 (relation_row f)) (roots (0 + sizes (relation_row f)) (relation_row g))
+
+    whole : n ≡ (0 + sizes (relation_row f)) + sizes (relation_row g)
+    whole = omega (arith, e, ap length h.laid, length-row_nodes 0 (relation_row (f ++ g)), sizes-append f g)
+
+pub row-con : (nodes more_nodes : List RelNode) (places more_places ids kept : List ℕ) (made : List Relation) (name : Chars) (us : List TypeTree) (n k : ℕ) → IsRow nodes places made → k ≤ length made → n ≡ length nodes
+    → kept ≡ take (length places - k) places → ids ≡ drop (length places - k) places
+    → more_places ≡ kept ++ n ∷ [] → more_nodes ≡ nodes ++ Con name us ids ∷ [] → IsRow more_nodes more_places (take (length made - k) made ++ constructed name us (relation_row (drop (length made - k) made)) ∷ [])
+row-con nodes more_nodes places more_places ids kept made name us n k h fits e ke d p q =
+    joined nodes more_nodes places more_places ids kept (take (length made - k) made) (drop (length made - k) made) name us n
+    (subst (λ (r : List Relation). IsRow nodes places r) (sym (take-append-drop (length made - k) made)) h) e
+    (ke ∙ ap (λ m. take m places) at) (d ∙ ap (λ m. drop m places) at) p q
+  where
+    at : length places - k ≡ length (take (length made - k) made)
+    at = ap (λ m. m - k) (length-row nodes places made h) ∙ sym (length-take-le (length made - k) made (omega arith))
