@@ -1,0 +1,6 @@
+//! Statements read as quantifiers, premises and a conclusion.
+#![tactic(auto)]
+
+mod part;
+
+pub use part::{Part, Shape};
