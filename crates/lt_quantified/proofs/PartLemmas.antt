@@ -113,6 +113,35 @@ pub function-nodes : (from : ℕ) (below front : List TermNode) (n : ℕ) (f a :
 function-nodes from below front n f a h e p =
     p ∙ (λ i. take ((e ∙ sym (length-term_nodes from f)) i) (h i)) ∙ take-append_seam (term_nodes from f) (term_nodes (from + (under f + 1)) a)
 
-pub argument-nodes : (from : ℕ) (below back : List TermNode) (n : ℕ) (f a : TermTree) → below ≡ term_nodes from f ++ term_nodes (from + (under f + 1)) a → n ≡ under f + 1 → back ≡ drop n below → back ≡ term_nodes (from + (under f + 1)) a
-argument-nodes from below back n f a h e p =
+pub argument-nodes : (from : ℕ) (at : ℕ) (below back : List TermNode) (n : ℕ) (f a : TermTree) → below ≡ term_nodes from f ++ term_nodes (from + (under f + 1)) a → n ≡ under f + 1 → at ≡ from + (under f + 1) → back ≡ drop n below → back ≡ term_nodes at a
+argument-nodes from at below back n f a h e place p =
     p ∙ (λ i. drop ((e ∙ sym (length-term_nodes from f)) i) (h i)) ∙ drop-append_seam (term_nodes from f) (term_nodes (from + (under f + 1)) a)
+    ∙ ap (λ k. term_nodes k a) (sym place)
+
+-- the same by what is known of a part whose root is given
+
+abbrev tree : List TermNode → TermNode → TermTree
+tree below root = term_of_nodes (below ++ root ∷ [])
+
+at-root : (from : ℕ) (below : List TermNode) (root n : TermNode) → root ≡ n → IsPart from (below ++ root ∷ []) → below ++ n ∷ [] ≡ term_nodes from (tree below root)
+at-root from below root n e p = ap (λ r. below ++ r ∷ []) (sym e) ∙ p.laid
+
+pub applied-root : (from : ℕ) (below : List TermNode) (root : TermNode) (i j : ℕ) → root ≡ App i j → IsPart from (below ++ root ∷ []) → IsApplied from below i (tree below root)
+applied-root from below root i j e p = applied-parts from below i j (tree below root) (at-root from below root (App i j) e p)
+
+pub abstracted-root : (from : ℕ) (below : List TermNode) (root : TermNode) (x : Chars) (ty : TypeTree) (j : ℕ) → root ≡ Lam x ty j → IsPart from (below ++ root ∷ []) → IsAbstracted from below x ty (tree below root)
+abstracted-root from below root x ty j e p = abstracted-parts from below x ty j (tree below root) (at-root from below root (Lam x ty j) e p)
+
+pub free-root : (from : ℕ) (below : List TermNode) (root : TermNode) (x : Chars) (ty : TypeTree) → root ≡ Free x ty → IsPart from (below ++ root ∷ []) → free_variable x ty ≡ tree below root
+free-root from below root x ty e p = free-leaf from below x ty (tree below root) (at-root from below root (Free x ty) e p)
+
+pub bound-root : (from : ℕ) (below : List TermNode) (root : TermNode) (x : Chars) → root ≡ Bound x → IsPart from (below ++ root ∷ []) → bound_name x ≡ tree below root
+bound-root from below root x e p = bound-leaf from below x (tree below root) (at-root from below root (Bound x) e p)
+
+pub constant-root : (from : ℕ) (below : List TermNode) (root : TermNode) (c : Chars) (ts : List TypeTree) → root ≡ Const c ts → IsPart from (below ++ root ∷ []) → constant c ts ≡ tree below root
+constant-root from below root c ts e p = constant-leaf from below c ts (tree below root) (at-root from below root (Const c ts) e p)
+
+-- how many nodes there are below
+pub applied-size : (from : ℕ) (below : List TermNode) (i : ℕ) (t : TermTree) (p : IsApplied from below i t) → length below ≡ term_size p.function + term_size p.argument
+applied-size from below i t p =
+    omega (arith, ap length p.laid, length-append (term_nodes from p.function) (term_nodes (from + (under p.function + 1)) p.argument), length-term_nodes from p.function, length-term_nodes (from + (under p.function + 1)) p.argument)

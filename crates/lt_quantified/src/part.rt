@@ -45,7 +45,7 @@ impl<'a> Part<'a> {
     pub fn of(term: &'a Term) -> Part<'a>
         ensures { result ≡ term.now }
     {
-        part(term.nodes(), 0)
+        part_from(term.nodes(), 0)
     }
 
     /// The same part.
@@ -89,7 +89,7 @@ impl<'a> Part<'a> {
 }
 
 /// The part that nodes from a place on hold.
-fn part<'a>(nodes: &'a [TermNode], from: usize) -> Part<'a>
+fn part_from<'a>(nodes: &'a [TermNode], from: usize) -> Part<'a>
     requires { IsPart from nodes.now }
     ensures { result ≡ term_of_nodes nodes.now }
 {
@@ -108,8 +108,8 @@ fn made_of<'a>(root: &'a TermNode, below: &'a [TermNode], from: usize) -> Shape<
         TermNode::Const(name, types) => Shape::Const(name, types),
         TermNode::App(function, _) => {
             let (front, back) = below.split_at(*function - from + 1);
-            Shape::App(part(front, from), part(back, from + front.len()))
+            Shape::App(part_from(front, from), part_from(back, from + front.len()))
         }
-        TermNode::Lam(name, ty, _) => Shape::Lam(name, ty, part(below, from)),
+        TermNode::Lam(name, ty, _) => Shape::Lam(name, ty, part_from(below, from)),
     }
 }
