@@ -48,23 +48,23 @@ returns-in-Const-clause-made c = constant-root _ _ _ _ _ c.in-Const.is c.require
 pub returns-in-App-clause-made : goal.returns-in-App-clause-made
 returns-in-App-clause-made c =
     let p = applied-root _ _ _ _ _ c.in-App.is c.requires in
-    let f = c.part_from.ensures ∙ part-is _ _ p.function (function-nodes _ _ _ _ p.function p.argument p.laid (omega (arith, p.at)) c.split_at.ensures.front) in
-    let a = c.part_from-in-App.ensures ∙ part-is _ _ p.argument (argument-nodes c.args.from _ _ _ _ p.function p.argument p.laid (omega (arith, p.at)) (omega (arith, p.at, c.split_at.ensures.front_len)) c.split_at.ensures.back) in
+    let f = c.part_from.ensures ∙ part-is c.args.from _ p.function (function-nodes c.args.from _ _ _ p.function p.argument p.laid (omega (arith, p.at)) c.split_at.ensures.front) in
+    let a = c.part_from-in-App.ensures ∙ part-is (c.args.from + length c.split_at.result.0.now) _ p.argument (argument-nodes c.args.from _ _ _ _ p.function p.argument p.laid (omega (arith, p.at)) (omega (arith, p.at, c.split_at.ensures.front_len)) c.split_at.ensures.back) in
     (λ i. application (f i) (a i)) ∙ sym p.is
 
 pub returns-in-App-clause-smaller : goal.returns-in-App-clause-smaller
 returns-in-App-clause-smaller c =
     let p = applied-root _ _ _ _ _ c.in-App.is c.requires in
-    let f = c.part_from.ensures ∙ part-is _ _ p.function (function-nodes _ _ _ _ p.function p.argument p.laid (omega (arith, p.at)) c.split_at.ensures.front) in
-    let a = c.part_from-in-App.ensures ∙ part-is _ _ p.argument (argument-nodes c.args.from _ _ _ _ p.function p.argument p.laid (omega (arith, p.at)) (omega (arith, p.at, c.split_at.ensures.front_len)) c.split_at.ensures.back) in
+    let f = c.part_from.ensures ∙ part-is c.args.from _ p.function (function-nodes c.args.from _ _ _ p.function p.argument p.laid (omega (arith, p.at)) c.split_at.ensures.front) in
+    let a = c.part_from-in-App.ensures ∙ part-is (c.args.from + length c.split_at.result.0.now) _ p.argument (argument-nodes c.args.from _ _ _ _ p.function p.argument p.laid (omega (arith, p.at)) (omega (arith, p.at, c.split_at.ensures.front_len)) c.split_at.ensures.back) in
     (omega (arith, ap term_size f, applied-size _ _ _ _ p), omega (arith, ap term_size a, applied-size _ _ _ _ p))
 
 pub returns-in-Lam-clause-made : goal.returns-in-Lam-clause-made
 returns-in-Lam-clause-made c =
     let p = abstracted-root _ _ _ _ _ _ c.in-Lam.is c.requires in
-    ap (abstraction _ _) (c.part_from-in-Lam.ensures ∙ part-is _ _ p.body p.laid) ∙ sym p.is
+    ap (abstraction c.in-Lam.name c.in-Lam.ty) (c.part_from-in-Lam.ensures ∙ part-is c.args.from _ p.body p.laid) ∙ sym p.is
 
 pub returns-in-Lam-clause-smaller : goal.returns-in-Lam-clause-smaller
 returns-in-Lam-clause-smaller c =
     let p = abstracted-root _ _ _ _ _ _ c.in-Lam.is c.requires in
-    omega (arith, ap term_size (c.part_from-in-Lam.ensures ∙ part-is _ _ p.body p.laid), ap length p.laid, length-term_nodes c.args.from p.body)
+    omega (arith, ap term_size (c.part_from-in-Lam.ensures ∙ part-is c.args.from _ p.body p.laid), ap length p.laid, length-term_nodes c.args.from p.body)
