@@ -67,12 +67,14 @@ fn conversions_are_put_together(rt: HostRuntime) -> Result<(), Fail> {
 fn every_place_is_converted(rt: HostRuntime) -> Result<(), Fail> {
     let alloc = rt.alloc();
     let everywhere = Everywhere { inner: Beta };
-    assert!(rt; converts(
-        alloc,
-        &everywhere,
-        "x%x^f$x%x^x%...x^",
-        "o:o:>e#x%x^f$x%x^x%...x^.f$x%.x^."
-    )?);
+    assert!(rt;
+        converts(
+            alloc,
+            &everywhere,
+            "x%x^f$x%x^x%...x^",
+            "o:o:>e#x%x^f$x%x^x%...x^.f$x%.x^."
+        )?
+    );
     Ok(())
 }
 
@@ -82,11 +84,13 @@ fn a_constant_is_unfolded_at_its_types(rt: HostRuntime) -> Result<(), Fail> {
     let unfold = Unfold {
         label: word(alloc, "ex_def")?,
     };
-    assert!(rt; converts(
-        alloc,
-        &unfold,
-        "o:x#",
-        "o:o:>P=P:o:>e#o:x#.q!i#x!i#P%x%..q%.x^..q%.q^.P^."
-    )?);
+    assert!(rt;
+        converts(
+            alloc,
+            &unfold,
+            "o:x#",
+            "o:o:>P=P:o:>e#o:x#.q!i#x!i#P%x%..q%.x^..q%.q^.P^."
+        )?
+    );
     Ok(())
 }

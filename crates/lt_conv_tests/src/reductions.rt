@@ -87,6 +87,9 @@ fn ten_thousand_steps_are_within_the_limit(rt: HostRuntime) -> Result<(), Fail> 
 fn one_step_more_passes_it(rt: HostRuntime) -> Result<(), Fail> {
     let alloc = rt.alloc();
     let term = towers(alloc, &MORE)?;
-    assert_eq!(rt; limit(alloc, PlainStore::new(alloc), term.as_str())?, Some(10_000));
+    assert_eq!(rt;
+        limit(alloc, PlainStore::new(alloc), term.as_str())?,
+        Some(10_000)
+    );
     Ok(())
 }
