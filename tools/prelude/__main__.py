@@ -1,7 +1,8 @@
 """Makes and checks the prelude.
 
     python3 tools/prelude make > prelude.lt
-    python3 tools/prelude check prelude.lt
+    python3 tools/prelude make --from 2 --part 2 > part2.lt
+    python3 tools/prelude check prelude.lt part2.lt
 """
 
 import argparse
@@ -13,20 +14,26 @@ from reading import BadText
 
 
 def make(given):
-    sys.stdout.write(prelude(given.part, given.plain))
+    sys.stdout.write(prelude(given.first, given.part, given.plain))
 
 
 def check(given):
     """Prints how many commands and lines there are, or ends with what is wrong first."""
     checker = Check()
+    for name in given.files:
+        check_file(checker, name)
+    print(' '.join('%s %d' % each for each in sorted(checker.counts.items())))
+
+
+def check_file(checker, name):
+    """Checks a file over what the ones before it declare and state."""
     try:
-        with open(given.file, encoding='utf-8', newline='') as file:
+        with open(name, encoding='utf-8', newline='') as file:
             checker.check_text(file.read())
     except BadText as bad:
-        sys.exit('%s:%d: %s' % (given.file, bad.line, bad.reason))
+        sys.exit('%s:%d: %s' % (name, bad.line, bad.reason))
     except (OSError, UnicodeDecodeError) as fault:
-        sys.exit('%s: %s' % (given.file, fault))
-    print(' '.join('%s %d' % each for each in sorted(checker.counts.items())))
+        sys.exit('%s: %s' % (name, fault))
 
 
 def words():
@@ -34,10 +41,12 @@ def words():
     commands = parser.add_subparsers(required=True)
     maker = commands.add_parser('make', help='writes the prelude')
     maker.add_argument('--part', type=int, choices=PARTS, default=1, help='up to this part')
+    maker.add_argument('--from', type=int, choices=PARTS, default=1, dest='first',
+                       help='from this part on, to be read behind the parts before it')
     maker.add_argument('--plain', action='store_true', help='as a plain theory, not registered')
     maker.set_defaults(run=make)
-    reader = commands.add_parser('check', help='checks a prelude, line by line')
-    reader.add_argument('file')
+    reader = commands.add_parser('check', help='checks a prelude in one or more files, line by line')
+    reader.add_argument('files', nargs='+', metavar='FILE')
     reader.set_defaults(run=check)
     return parser.parse_args()
 

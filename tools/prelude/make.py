@@ -38,15 +38,27 @@ around it.
 ABOUT_CONTAINERS = 'The axioms of these types are the only ones of this text.'
 
 
-def prelude(last_part, plain):
-    """The text of the parts up to the last one, as a theory, or without registrations as plain."""
-    blocks = ['plain 1;' if plain else 'theory 1;', note(ABOUT), heading('Constants')]
-    blocks += map(definition_text, DEFINITIONS)
-    for part in range(1, last_part + 1):
-        blocks += lemma_blocks(*PARTS[part], plain)
-        if part == 2:
-            blocks += container_blocks(plain)
+def prelude(first, last, plain):
+    """The text of the parts from the first to the last, as a theory, or as plain: not registered.
+
+    The parts before the first are made too, since the proofs of the later ones use their lemmas.
+    """
+    blocks = ['plain 1;' if plain else 'theory 1;', note(ABOUT)]
+    for part in range(1, last + 1):
+        made = part_blocks(part, plain)
+        if part >= first:
+            blocks += made
     return '\n\n'.join(blocks) + '\n'
+
+
+def part_blocks(part, plain):
+    blocks = constant_blocks() if part == 1 else []
+    blocks += lemma_blocks(*PARTS[part], plain)
+    return blocks + container_blocks(plain) if part == 2 else blocks
+
+
+def constant_blocks():
+    return [heading('Constants'), *map(definition_text, DEFINITIONS)]
 
 
 def note(text):
