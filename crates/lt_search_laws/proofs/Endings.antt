@@ -3,7 +3,6 @@ use Rattle.std.proofs.Common.{◌≡◌, ℕ, suc, ◌+◌, ◌≤◌, List, [],
 use Rattle.std.proofs.lemmas.List.Elements.{Contains-append_left, Contains-append_right, Contains-append_cases}
 use Rattle.std.proofs.lemmas.List.{length-append}
 use Rattle.lt_definitions.specs.Types.{found}
-use Rattle.lt_transport_definitions.specs.Constants.{at}
 use Rattle.lt_transport_definitions.specs.Candidates.{occurrences}
 use Rattle.lt_transport_definitions.specs.Search.{Question, Solution, IsWhole, IsLeast, IsBefore, IsAnswer, HasNoAnswer, AreChoices, IsPrefix, IsNoLater, IsVisit, HasVisits, HasMoreVisits}
 use Rattle.lt_search_laws.specs.Walk.{Precedes, IsStep, IsAt, TheWalkGoes}
@@ -44,9 +43,11 @@ come-by q p i vs at x h choices s a = elim-places (places-of x choices)
       | inl l ↦ at.none choices a.whole s (precedes-trans choices x (p ++ i ∷ []) k l)
       | inr e ↦ at.none choices a.whole s (subst (Precedes choices) e k)
     ]
+
     continued : (rest : List ℕ) → x ≡ choices ++ rest → IsPrefix x choices ⊎ IsBefore x choices
     continued [] e = inl ([], append-nil x ∙ e ∙ append-nil choices)
     continued (j ∷ r) e = absurd (through (subst (Precedes choices) (sym e) (begins-before choices j r)))
+
     elim-places : Places x choices → IsPrefix x choices ⊎ IsBefore x choices
     elim-places (comes k) = inr k
     elim-places (follows k) = absurd (through (before-precedes choices x k))
@@ -91,11 +92,14 @@ walk-found q p i vs at c w s least = (
     first-of others u t (follows k) = inr k
     first-of others u t (begins k) = inl (same-length others (p ++ i ∷ []) k.0 (u ∙ sym w) k.1)
     first-of others u t (continues k) = inl (sym (same-length (p ++ i ∷ []) others k.0 (w ∙ sym u) k.1))
+
     answer : IsAnswer q (p ++ i ∷ []) s
     answer = record { whole = w; least = least; first = λ others u t. first-of others u t (places-of others (p ++ i ∷ [])) }
+
     inside : (x rest : List ℕ) → IsStep q x → x ++ rest ≡ p ++ i ∷ [] → Contains (vs ++ (p ++ i ∷ []) ∷ []) x
     inside x [] t e = Contains-append_right vs ((p ++ i ∷ []) ∷ []) x (subst (λ z. Contains ((p ++ i ∷ []) ∷ []) z) (sym (sym (append-nil x) ∙ e)) (here (p ++ i ∷ []) []))
     inside x (j ∷ r) t e = Contains-append_left vs ((p ++ i ∷ []) ∷ []) x ((at.visited x).1 (t, subst (Precedes x) e (begins-before x j r)))
+
     back : (x : List ℕ) → IsVisit q x → Contains (vs ++ (p ++ i ∷ []) ∷ []) x
     back x v = elim (v.no_later (p ++ i ∷ []) s answer) [
       | inl k ↦ inside x k.0 (step-of q x v) k.1

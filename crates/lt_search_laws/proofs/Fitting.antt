@@ -1,12 +1,12 @@
 -- Replacements of the right types, and the expressions and equations of a statement under them.
 use Rattle.std.specs.Prelude.{if◌then◌else◌}
-use Rattle.std.proofs.Common.{◌≡◌, ℕ, zero, suc, ◌+◌, List, [], ◌∷◌, ◌++◌, length, Some, refl, subst, sym, ap, ◌∙◌, inl, inr, arith}
+use Rattle.std.proofs.Common.{◌≡◌, ℕ, zero, suc, ◌+◌, List, [], ◌∷◌, ◌++◌, length, Some, slice_get, refl, subst, sym, ap, ◌∙◌, inl, inr, arith}
 use Rattle.std.proofs.lemmas.Bool.{cases_Bool}
 use Rattle.lt_definitions.specs.Types.{Chars, same_name, found, TypeTree, fun, TypeMap}
 use Rattle.lt_definitions.specs.Typing.{Signature}
-use Rattle.lt_transport_definitions.specs.Relations.{Relation, relation_variable, equality, constructed, Relations, no_relations, relation_and, RelationVariable, Registry, kind_of}
+use Rattle.lt_transport_definitions.specs.Relations.{Relation, relation_variable, equality, constructed, Relations, no_relations, relation_and, relation_row, RelationVariable, Registry, kind_of}
 use Rattle.lt_transport_definitions.specs.Expressions.{right_of, right, normal_equality, IsExpression, function_relator}
-use Rattle.lt_transport_definitions.specs.Below.{Below, AreBelow}
+use Rattle.lt_transport_definitions.specs.Below.{Below, AreBelow, SideAt}
 use Rattle.lt_transport_definitions.specs.RuleForm.{TransferRule}
 use Rattle.lt_transport_definitions.specs.Candidates.{type_at, match_of, fits, candidates}
 use Rattle.lt_transport_definitions.specs.Correspondence.{ChosenStatement, chosen_name, chosen_rule, chosen_equality, not_chosen, chosen_application, chosen_abstraction, Assignment, AreCandidates, relation_instance, AreValues, IsAssignment, Corresponds}
@@ -159,8 +159,7 @@ equations-alike G ok sig rules are_typed τ e var fit num n names env (not_chose
 equations-alike G ok sig rules are_typed τ e var fit num n names env (chosen_application f a) ty h k l =
     let x = expression-comes G ok sig rules are_typed τ e var fit num (suc n) names env f (fun h.0 ty) h.2 k.0 l in
     let y = expression-comes G ok sig rules are_typed τ e var fit num (suc n + slots f) names env a h.0 h.3 k.1 l in
-    let v : Comes G (under e (var n)) ty = subst (λ r. Comes G r ty) (sym (num e n)) (fit-comes G τ e fit n ty h.1) in
-    (
+    let v : Comes G (under e (var n)) ty = subst (λ r. Comes G r ty) (sym (num e n)) (fit-comes G τ e fit n ty h.1) in (
       (fun h.0 ty, x, function-comes G (under e (expression_at G sig var (suc n + slots f) names a)) (under e (var n)) h.0 ty y v),
       alike-both G e (equations_at G sig var (suc n) names f) (equations_at G sig var (suc n + slots f) names a)
           (equations-alike G ok sig rules are_typed τ e var fit num (suc n) names env f (fun h.0 ty) h.2 k.0 l)
@@ -176,8 +175,7 @@ alike-related G τ e fit [] h = tt
 alike-related G τ e fit (q ∷ es) h =
     let t = h.0.0 in
     let a = h.0.1 in
-    let b = h.0.2 in
-    (
+    let b = h.0.2 in (
       is-same (tree_type G τ (relation_tree q.0)) (tree_type G τ (relation_tree q.1)) t
           (expression-typed G τ e fit q.0 a.expression ∙ ap Some a.right_is) (expression-typed G τ e fit q.1 b.expression ∙ ap Some b.right_is),
       alike-related G τ e fit es h.1,

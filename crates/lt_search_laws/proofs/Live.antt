@@ -2,7 +2,6 @@
 use Rattle.std.proofs.Common.{◌≡◌, ℕ, zero, suc, ◌+◌, List, [], ◌∷◌, ◌++◌, Option, Some, None, slice_get, refl, subst, sym, ap, ◌∙◌, Bool}
 use Rattle.lt_definitions.specs.Types.{TypeTree, bool}
 use Rattle.lt_definitions.specs.Terms.{implies}
-use Rattle.lt_transport_definitions.specs.Constants.{at}
 use Rattle.lt_transport_definitions.specs.Relations.{Relation, equality, no_relations, Registry}
 use Rattle.lt_transport_definitions.specs.Expressions.{right, equality_by, normal_equality, IsExpression, implication}
 use Rattle.lt_transport_definitions.specs.Below.{Below}
@@ -168,7 +167,7 @@ module _ (q : Question) (prefix : List ℕ) (K : ChosenStatement) (top : Option 
         let G = q.registry in
         let fit = equality-fits G posed.registry τ in
         let alike = alike-both G equalities (top_equation (chosen_top q.top top) whole) inner (top-alike top)
-            (equations-alike G posed.registry q.signature q.rules posed.rules τ equalities (variable_of τ) fit numbered-ok 0 [] [] K bool posed.typed_slots posed.candidates tt) in
+        (equations-alike G posed.registry q.signature q.rules posed.rules τ equalities (variable_of τ) fit numbered-ok 0 [] [] K bool posed.typed_slots posed.candidates tt) in
         let respects = is.found_for.related (same_right G τ) (simplifiable G τ) (alike-related G τ equalities fit (prefix_equations q τ K top) alike) in
         let comes : (n : ℕ) → Comes G (least n) (τ n) =
         (λ n. typed-expression G τ equalities fit (r n) (τ n) (ap (tree_type G τ) (is.resolved n) ∙ solution-typed G τ bs respects n)) in
@@ -204,9 +203,9 @@ module _ (q : Question) (prefix : List ℕ) (K : ChosenStatement) (top : Option 
         let k : Solves t bs = (is.found_for.general t).1 (solved-unified s.by (prefix_equations q τ K top) s.solved) in
         let closed : (n : ℕ) → IsClosed (s.by n) = (λ n. expression-closed G (s.by n) (s.fits.expressions n)) in
         let same : (n : ℕ) → s.by n ≡ under s.by (r n) = (λ n. tree-injective (s.by n) (under s.by (r n)) (closed n) (under-closed s.by closed (r n))
-            (is.general_of t k (Var n) ∙ ap (apply t) (sym (is.resolved n)) ∙ sym (tree-under s.by (r n)))) in
+        (is.general_of t k (Var n) ∙ ap (apply t) (sym (is.resolved n)) ∙ sym (tree-under s.by (r n)))) in
         let one : (n : ℕ) → Below G (equalities n) (s.by n) = (λ n. equality-least G (equalities n) (s.by n)
-            (right-equality G posed.registry (τ n) ∙ sym (s.fits.types n)) (equality-is G posed.registry (τ n))) in
+        (right-equality G posed.registry (τ n) ∙ sym (s.fits.types n)) (equality-is G posed.registry (τ n))) in
         let each : (n : ℕ) → Below G (least n) (s.by n) = (λ n. subst (Below G (least n)) (sym (same n)) (under-below G equalities s.by one (r n))) in
         subst (BelowIn G K (reading least 0 K)) s.reads (reading-below G least s.by each 0 K)
 

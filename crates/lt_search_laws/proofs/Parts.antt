@@ -3,7 +3,7 @@ use Rattle.std.specs.Prelude.{◌&&◌, if◌then◌else◌}
 use Rattle.std.specs.List.{zip}
 use Rattle.std.proofs.Common.{◌≡◌, ℕ, ◌+◌, List, [], ◌∷◌, ◌++◌, length, Option, Some, None, refl, subst, sym, ap, ◌∙◌, inl, inr, Bool, true, false, nat_eq, cond, append_assoc}
 use Rattle.std.proofs.lemmas.Bool.{eqb-true, eq-eqb, cases_Bool}
-use Rattle.lt_definitions.proofs.Tests.{both-true, true-both, type-true, true-type}
+use Rattle.lt_definitions.proofs.SameNames.{both-true, true-both, type-true, true-type}
 use Rattle.lt_definitions.specs.Types.{Chars, TypeTree, type_variable, type_constructor, bool, listed, row, same_type}
 use Rattle.lt_definitions.specs.Typing.{earlier}
 use Rattle.lt_transport_definitions.specs.Relations.{Relation, relation_variable, equality, constructed, Relations, no_relations, relation_and, Parametrised, Registry, relator_for, form_for, Kind, no_constructor, a_relator, a_correspondence, a_form, kind_of}
@@ -185,9 +185,9 @@ apply-typed G τ s ok (App f a) =
     let y = apply-typed G τ s ok a in
     let heads : (h : Head) (us : List TypeTree) → with_part (part G τ f) (tree_type G τ a) ≡ a_head h us → with_part (part G τ (apply s f)) (tree_type G τ (apply s a)) ≡ a_head h us =
     (λ h us e. let g = grown (part G τ f) (tree_type G τ a) h us e in
-        let p = x.heads h g.before g.head_is in
-        let q = y.types g.last g.last_is in
-        (λ i. with_part (p i) (q i)) ∙ ap (a_head h) (sym g.all_is)) in
+    let p = x.heads h g.before g.head_is in
+    let q = y.types g.last g.last_is in
+    (λ i. with_part (p i) (q i)) ∙ ap (a_head h) (sym g.all_is)) in
     record {
       heads = heads;
       types = λ v e. let g = finish G (with_part (part G τ f) (tree_type G τ a)) v (no_variable-with (part G τ f) (tree_type G τ a)) e in

@@ -71,9 +71,9 @@ slots-hold sig τ n env (not_chosen c ts) ty h k = (constant-is sig env c ts ty 
 slots-hold sig τ n env (chosen_application f a) ty h k =
     let us = slot_types sig env f (fun h.0 ty) h.1 in
     let vs = slot_types sig env a h.0 h.2 in
-    let l = slot_types-length sig env f (fun h.0 ty) h.1 in
-    (
-      h.0, k.0,
+    let l = slot_types-length sig env f (fun h.0 ty) h.1 in (
+      h.0,
+      k.0,
       slots-hold sig τ (suc n) env f (fun h.0 ty) h.1 (types-left τ (suc n) us vs k.1),
       slots-hold sig τ (suc n + slots f) env a h.0 h.2 (types-right τ (suc n) (suc n + slots f) us vs (omega arith) k.1),
     )

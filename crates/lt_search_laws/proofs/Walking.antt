@@ -3,7 +3,6 @@ use Rattle.std.proofs.Common.{◌≡◌, ℕ, zero, suc, ◌+◌, ◌<◌, List,
 use Rattle.std.specs.Prelude.{IsSome}
 use Rattle.std.proofs.lemmas.List.Elements.{Contains-append_left, Contains-append_right, Contains-append_cases}
 use Rattle.lt_definitions.specs.Types.{Chars, TypeTree}
-use Rattle.lt_transport_definitions.specs.Constants.{at}
 use Rattle.lt_transport_definitions.specs.RuleForm.{TransferRule}
 use Rattle.lt_transport_definitions.specs.Candidates.{occurrences, candidates, IsChoice}
 use Rattle.lt_transport_definitions.specs.Search.{Top, equal, implied, Question, top_candidates, Solution, IsWhole, IsLive, AreChoices}
@@ -111,12 +110,14 @@ walk-starts q = record {
   where
     no : {k : ℕ} → k < 0 → ⊥
     no l = omega arith
+
     first : (x : List ℕ) → IsStep q x → Precedes x (0 ∷ []) → ⊥
     first [] s h = no-snoc s.parent s.last [] (sym s.longer)
     first (a ∷ x) s h = elim h [
       | inl l ↦ omega arith
       | inr k ↦ not-nothing x k.1
     ]
+
     before : (x : List ℕ) → IsWhole q x → Precedes x (0 ∷ []) → ⊥
     before [] w h = omega (arith, w)
     before (a ∷ x) w h = elim h [
