@@ -75,7 +75,7 @@ mutual
   instances-expressions G ok m xs vs h (relation_and r rs) k = (instance-expression G ok m xs vs h r k.0, instances-expressions G ok m xs vs h rs k.1)
 
 -- a rule has passed a test, and is typed
-abbrev Passed : Registry → Signature → (TransferRule → Bool) → TransferRule → Type 0
+abbrev pub Passed : Registry → Signature → (TransferRule → Bool) → TransferRule → Type 0
 Passed G S f rule = (f rule ≡ true) × IsTyped G S rule
 
 -- the first of a list, or one behind it
@@ -85,7 +85,7 @@ first-or-behind G S f r rules zero rule p k h = let e : r ≡ rule = cc in subst
 first-or-behind G S f r rules (suc i) rule p k h = k i h
 
 -- what stands among those of a list that pass a test passes it, and has what each of the list has
-among : (G : Registry) (S : Signature) (f : TransferRule → Bool) (rules : List TransferRule) (i : ℕ) (rule : TransferRule)
+pub among : (G : Registry) (S : Signature) (f : TransferRule → Bool) (rules : List TransferRule) (i : ℕ) (rule : TransferRule)
     → AreTyped G S rules → slice_get (filter f rules) i ≡ Some rule → Passed G S f rule
 among G S f [] i rule t h = let e : ◌≡◌ {A = Option TransferRule} None (Some rule) = sym (slice_get_past [] i (omega arith)) ∙ h in absurd (cc)
 among G S f (r ∷ rules) i rule t h = elim (bool_cases (f r)) [
