@@ -45,7 +45,7 @@ def words():
                        help='from this part on, to be read behind the parts before it')
     maker.add_argument('--plain', action='store_true', help='as a plain theory, not registered')
     maker.set_defaults(run=make)
-    reader = commands.add_parser('check', help='checks a prelude in one or more files, line by line')
+    reader = commands.add_parser('check', help='checks a prelude, in one file or more')
     reader.add_argument('files', nargs='+', metavar='FILE')
     reader.set_defaults(run=check)
     return parser.parse_args()
