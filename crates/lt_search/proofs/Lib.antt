@@ -1,0 +1,2 @@
+-- Lemmas of the walk.
+pub mod WalkLemmas

@@ -1,0 +1,2 @@
+-- What a walk over prefixes finds.
+pub mod Walks
