@@ -19,12 +19,6 @@ pub enum WalkFault {
     Memory,
 }
 
-impl From<Memory> for WalkFault {
-    fn from(_fault: Memory) -> WalkFault {
-        WalkFault::Memory
-    }
-}
-
 /// A live prefix of a choice list, which grows and shrinks at its end.
 pub trait Prefixes: Drop {
     /// What is asked.
@@ -83,13 +77,17 @@ pub fn first_answer<P: Prefixes>(alloc: Global, prefixes: &mut P, limit: u64) ->
             return Err(WalkFault::Limit);
         }
         visits += 1;
-        if !prefixes.add(alloc, next)? {
-            next += 1;
+        let live = match prefixes.add(alloc, next) {
+            Ok(live) => live,
+            Err(_) => return Err(WalkFault::Memory),
+        };
+        if live {
+            if prefixes.is_whole() {
+                return Ok(visits);
+            }
+            next = 0;
             continue;
         }
-        if prefixes.is_whole() {
-            return Ok(visits);
-        }
-        next = 0;
+        next += 1;
     }
 }
