@@ -1,6 +1,6 @@
 -- Each step of the walk, and each of its ends.
 use Rattle.std.specs.Bool.{OnTrue, OnFalse}
-use Rattle.std.specs.Prelude.{◌↔◌}
+use Rattle.std.specs.Prelude.{◌↔◌, IsTrue}
 use Rattle.std.proofs.Common.{◌≡◌, ℕ, ◌+◌, ◌<◌, ◌≤◌, Bool, true, false, List, [], ◌∷◌, ◌++◌, length, refl, subst, sym, ap, ◌∙◌, arith}
 use Rattle.std.proofs.lemmas.List.{length-append}
 use Rattle.lt_transport_definitions.specs.Search.{Question, Solution, IsWhole, HasVisits, HasNoImage, HasMoreVisits}
@@ -115,3 +115,6 @@ back-shorter q p new next b = ap length b.parted ∙ length-append new (b.last �
 
 pub on-longer : (p new : List ℕ) (i : ℕ) (b : Bool) → b ≡ true → OnTrue b (new ≡ p ++ i ∷ []) → length new ≡ length p + 1
 on-longer p new i b t longer = ap length (on-true (new ≡ p ++ i ∷ []) b t longer) ∙ length-append p (i ∷ [])
+
+pub not-both : (b : Bool) → IsTrue b → b ≡ false → ⊥
+not-both b t f = let h = subst (λ z. IsTrue z) f t in absurd (cc (h))

@@ -1,11 +1,12 @@
 -- What a choice list chooses, and what one number more does.
 use Rattle.std.specs.Prelude.{take, drop}
-use Rattle.std.proofs.Common.{◌≡◌, ℕ, zero, suc, ◌+◌, ◌-◌, ◌<◌, ◌≤◌, List, [], ◌∷◌, ◌++◌, length, Option, Some, None, slice_get, refl, subst, sym, ap, ◌∙◌, inl, inr, ◌⊎◌, arith, append_assoc, append-nil, IsSome}
+use Rattle.std.proofs.Common.{◌≡◌, ℕ, zero, suc, ◌+◌, ◌-◌, ◌<◌, ◌≤◌, List, [], ◌∷◌, ◌++◌, length, Option, Some, None, slice_get, true, refl, subst, sym, ap, ◌∙◌, inl, inr, ◌⊎◌, arith, append_assoc, append-nil, IsSome}
 use Rattle.std.proofs.lemmas.List.{length-append, length-drop, take-append-le, drop-append-le}
 use Rattle.std.proofs.Math.ListN.{drop_of_length-le}
 use Rattle.std.proofs.lemmas.Option.{slice_get_past, slice_get_within}
 use Rattle.lt_definitions.specs.Types.{Chars, TypeTree}
-use Rattle.lt_definitions.specs.Terms.{TermTree, free_variable, bound_name, constant, application, abstraction}
+use Rattle.lt_definitions.specs.Terms.{TermTree, free_variable, bound_name, constant, application, abstraction, is_closed}
+use Rattle.lt_definitions.proofs.SameNames.{both-true}
 use Rattle.lt_definitions.specs.Typing.{Signature}
 use Rattle.lt_transport_definitions.specs.Relations.{Relation, Registry}
 use Rattle.lt_transport_definitions.specs.RuleForm.{TransferRule}
@@ -14,20 +15,21 @@ use Rattle.lt_transport_definitions.specs.Correspondence.{ChosenStatement, chose
 use Rattle.lt_transport_definitions.specs.Search.{Question, AreFilled, AreChoices}
 use Rattle.lt_search_laws.specs.Equations.{size, rule_slots, choices_at}
 use Rattle.lt_search_laws.specs.Slots.{numbered_variable}
-use Rattle.lt_search_laws.specs.Choosing.{candidate_at, choose, number_behind, HasNoFree, places, candidate_equation, ChoicesGrow}
+use Rattle.lt_search_laws.specs.Choosing.{candidate_at, choose, number_behind, places, candidate_equation, ChoicesGrow}
 
 candidate-is : (o : Option TransferRule) (c : Chars) (ts : List TypeTree) (i : ℕ) → statement_of (candidate_at o c ts i) ≡ constant c ts
 candidate-is None c ts i = refl
 candidate-is (Some rule) c ts i = refl
 
-pub choose-is : (rules : List TransferRule) (t : TermTree) (p : List ℕ) → HasNoFree t → statement_of (choose rules t p) ≡ t
-choose-is rules (free_variable x t) p h = absurd h
+pub choose-is : (rules : List TransferRule) (t : TermTree) (p : List ℕ) → is_closed t ≡ true → statement_of (choose rules t p) ≡ t
+choose-is rules (free_variable x t) p h = absurd (cc (h))
 choose-is rules (bound_name x) p h = refl
 choose-is rules (constant c ts) [] h = refl
 choose-is rules (constant c ts) (i ∷ p) h = candidate-is (slice_get (candidates rules c ts) i) c ts i
 choose-is rules (application f a) p h =
-    let x = choose-is rules f (drop (length (occurrences a)) p) h.0 in
-    let y = choose-is rules a (take (length (occurrences a)) p) h.1 in (λ i. application (x i) (y i))
+    let both = both-true (is_closed f) (is_closed a) h in
+    let x = choose-is rules f (drop (length (occurrences a)) p) both.0 in
+    let y = choose-is rules a (take (length (occurrences a)) p) both.1 in (λ i. application (x i) (y i))
 choose-is rules (abstraction x t b) p h = ap (abstraction x t) (choose-is rules b p h)
 
 pub choose-size : (rules : List TransferRule) (t : TermTree) (p : List ℕ) → size (statement_of (choose rules t p)) ≡ size t
@@ -41,12 +43,12 @@ choose-size rules (application f a) p =
 choose-size rules (abstraction x t b) p = ap suc (choose-size rules b p)
 
 -- The numbers name candidates of the first occurrences, and those past the last are no matter.
-abbrev Names : List TransferRule → List (Chars × List TypeTree) → List ℕ → Type 0
+abbrev pub Names : List TransferRule → List (Chars × List TypeTree) → List ℕ → Type 0
 Names rules os [] = Unit {0}
 Names rules [] (i ∷ p) = Unit {0}
 Names rules (o ∷ os) (i ∷ p) = IsChoice rules o.0 o.1 i × Names rules os p
 
-choices-name : (q : Question) (os : List (Chars × List TypeTree)) (p : List ℕ) → AreChoices q os p → Names q.rules os p
+pub choices-name : (q : Question) (os : List (Chars × List TypeTree)) (p : List ℕ) → AreChoices q os p → Names q.rules os p
 choices-name q os [] h = tt
 choices-name q [] (i ∷ p) h = tt
 choices-name q (o ∷ os) (i ∷ p) h = (h.0, choices-name q os p h.1)
@@ -65,11 +67,11 @@ candidate-named : (rules : List TransferRule) (c : Chars) (ts : List TypeTree) (
     → AreCandidates rules (candidate_at o c ts i) × (numbers_of (candidate_at o c ts i) ≡ Some i ∷ [])
 candidate-named rules c ts i None e h = elim h [
   | inl k ↦ (k.0, ap (λ (n : ℕ). Some n ∷ []) (sym k.1))
-  | inr k ↦ (let n : IsSome {A = TransferRule} None = subst (λ o. IsSome o) e k in absurd (cc (n)))
+  | inr k ↦ (let n = subst (λ (o : Option TransferRule). IsSome o) e k in absurd (cc (n)))
 ]
 candidate-named rules c ts i (Some rule) e h = (e, refl)
 
-choose-candidates : (rules : List TransferRule) (t : TermTree) (p : List ℕ) → Names rules (occurrences t) p → AreCandidates rules (choose rules t p)
+pub choose-candidates : (rules : List TransferRule) (t : TermTree) (p : List ℕ) → Names rules (occurrences t) p → AreCandidates rules (choose rules t p)
 choose-candidates rules (free_variable x t) p h = tt
 choose-candidates rules (bound_name x) p h = tt
 choose-candidates rules (constant c ts) [] h = tt
@@ -86,17 +88,22 @@ fill zero p = []
 fill (suc n) [] = None ∷ fill n []
 fill (suc n) (i ∷ p) = Some i ∷ fill n p
 
-fill-append : (n m : ℕ) (p : List ℕ) → fill (n + m) p ≡ fill n (take n p) ++ fill m (drop n p)
-fill-append zero m p = refl
-fill-append (suc n) m [] = ap (λ r. None ∷ r) (fill-append n m [] ∙ (λ i. fill n (nothing-taken n i) ++ fill m (nothing-left n i)))
-  where
-    nothing-taken : (n : ℕ) → take n [] ≡ []
-    nothing-taken zero = refl
-    nothing-taken (suc n) = refl
-    nothing-left : (n : ℕ) → drop n [] ≡ []
-    nothing-left zero = refl
-    nothing-left (suc n) = refl
-fill-append (suc n) m (i ∷ p) = ap (λ r. Some i ∷ r) (fill-append n m p)
+taken-none : (n : ℕ) (p : List ℕ) → p ≡ [] → take n p ≡ []
+taken-none zero p e = refl
+taken-none (suc n) [] e = refl
+taken-none (suc n) (x ∷ p) e = absurd (cc (e))
+
+dropped-none : (n : ℕ) (p : List ℕ) → p ≡ [] → drop n p ≡ []
+dropped-none zero p e = e
+dropped-none (suc n) [] e = refl
+dropped-none (suc n) (x ∷ p) e = absurd (cc (e))
+
+fill-append : (k n m : ℕ) (p : List ℕ) → k ≡ n + m → fill k p ≡ fill n (take n p) ++ fill m (drop n p)
+fill-append k zero m p e = let q : k ≡ m = omega arith in ap (λ z. fill z p) q
+fill-append zero (suc n) m p e = absurd (omega arith)
+fill-append (suc k) (suc n) m [] e =
+    ap (λ r. None ∷ r) (fill-append k n m [] (omega arith) ∙ (λ i. fill n (taken-none n [] refl i) ++ fill m (dropped-none n [] refl i)))
+fill-append (suc k) (suc n) m (i ∷ p) e = ap (λ r. Some i ∷ r) (fill-append k n m p (omega arith))
 
 choose-numbers : (rules : List TransferRule) (t : TermTree) (p : List ℕ) → Names rules (occurrences t) p → numbers_of (choose rules t p) ≡ fill (length (occurrences t)) p
 choose-numbers rules (free_variable x t) p h = refl
@@ -107,7 +114,7 @@ choose-numbers rules (application f a) p h =
     let n = length (occurrences a) in
     let x = choose-numbers rules f (drop n p) (names-behind rules (occurrences a) (occurrences f) p h) in
     let y = choose-numbers rules a (take n p) (names-front rules (occurrences a) (occurrences f) p h) in
-    (λ i. y i ++ x i) ∙ sym (fill-append n (length (occurrences f)) p) ∙ ap (λ m. fill m p) (sym (length-append (occurrences a) (occurrences f)))
+    (λ i. y i ++ x i) ∙ sym (fill-append (length (occurrences (application f a))) n (length (occurrences f)) p (length-append (occurrences a) (occurrences f)))
 choose-numbers rules (abstraction x t b) p h = choose-numbers rules b p h
 
 filled-so : (q : Question) (os : List (Chars × List TypeTree)) (p : List ℕ) → AreChoices q os p → AreFilled (fill (length os) p ++ number_behind (length os) p ∷ []) p
@@ -116,7 +123,7 @@ filled-so q [] (i ∷ p) h = (refl, subst (λ z. AreFilled [] z) (sym h.1) tt)
 filled-so q (o ∷ os) [] h = filled-so q os [] tt
 filled-so q (o ∷ os) (i ∷ p) h = (refl, filled-so q os p h.1)
 
-choose-filled : (q : Question) (p : List ℕ) → AreChoices q (occurrences q.statement) p
+pub choose-filled : (q : Question) (p : List ℕ) → AreChoices q (occurrences q.statement) p
     → AreFilled (numbers_of (choose q.rules q.statement p) ++ number_behind (length (occurrences q.statement)) p ∷ []) p
 choose-filled q p h = subst (λ ns. AreFilled (ns ++ number_behind (length (occurrences q.statement)) p ∷ []) p)
     (sym (choose-numbers q.rules q.statement p (choices-name q (occurrences q.statement) p h))) (filled-so q (occurrences q.statement) p h)
@@ -130,13 +137,9 @@ none-chosen G sig rules (application f a) k m p e =
     let n = length (occurrences a) in
     let K = choose rules f (drop n p) in
     let L = choose rules a (take n p) in
-    let x = none-chosen G sig rules f k (m + rule_slots L) (drop n p) (drop_of_length-le p (let l = ap length e in omega arith)) in
-    let y = none-chosen G sig rules a (k + size (statement_of K)) m (take n p) (ap (take n) e ∙ nothing n) in
+    let x = none-chosen G sig rules f k (m + rule_slots L) (drop n p) (dropped-none n p e) in
+    let y = none-chosen G sig rules a (k + size (statement_of K)) m (take n p) (taken-none n p e) in
     (λ i. y i ++ x i)
-  where
-    nothing : (n : ℕ) → take n [] ≡ []
-    nothing zero = refl
-    nothing (suc n) = refl
 none-chosen G sig rules (abstraction x t b) k m p e = none-chosen G sig rules b k m p e
 
 none-slots : (rules : List TransferRule) (t : TermTree) (p : List ℕ) → p ≡ [] → rule_slots (choose rules t p) ≡ 0
@@ -145,13 +148,9 @@ none-slots rules (bound_name x) p e = refl
 none-slots rules (constant c ts) p e = ap (λ z. rule_slots (choose rules (constant c ts) z)) e
 none-slots rules (application f a) p e =
     let n = length (occurrences a) in
-    let x = none-slots rules f (drop n p) (drop_of_length-le p (let l = ap length e in omega arith)) in
-    let y = none-slots rules a (take n p) (ap (take n) e ∙ nothing n) in
-    omega arith
-  where
-    nothing : (n : ℕ) → take n [] ≡ []
-    nothing zero = refl
-    nothing (suc n) = refl
+    let x = none-slots rules f (drop n p) (dropped-none n p e) in
+    let y = none-slots rules a (take n p) (taken-none n p e) in
+    (λ i. y i + x i)
 none-slots rules (abstraction x t b) p e = none-slots rules b p e
 
 get-left : {A : Type 0} (xs ys : List A) (i : ℕ) → i < length xs → slice_get (xs ++ ys) i ≡ slice_get xs i
@@ -160,7 +159,7 @@ get-left (x ∷ xs) ys zero l = refl
 get-left (x ∷ xs) ys (suc i) l = get-left xs ys i (omega arith)
 
 get-right : {A : Type 0} (xs ys : List A) (i j : ℕ) → i ≡ length xs + j → slice_get (xs ++ ys) i ≡ slice_get ys j
-get-right [] ys i j e = ap (λ z. slice_get ys z) e
+get-right [] ys i j e = let q : i ≡ j = omega arith in ap (λ z. slice_get ys z) q
 get-right (x ∷ xs) ys zero j e = absurd (omega arith)
 get-right (x ∷ xs) ys (suc i) j e = get-right xs ys i j (omega arith)
 
@@ -256,7 +255,7 @@ module _ (G : Registry) (sig : Signature) (rules : List TransferRule) where
   choose-grown (bound_name x) k m p i n c ts h g = let l = slice_get_within [] (length p) n h in absurd (omega arith)
   choose-grown (constant d us) k m [] i n c ts h g =
       let a : k ≡ n = cc (h) in
-      let b : (d, us) ≡ (c, ts) = cc (g) in
+      let b : ◌≡◌ {A = Chars × List TypeTree} (d, us) (c, ts) = cc (g) in
       let o : m ≡ m + 0 = omega arith in
       candidate-grown G sig (slice_get (candidates rules d us) i) k m d us i
       ∙ (λ j. candidate_equation G sig (a j) (o j) (slice_get (candidates rules (b j).0 (b j).1) i) (b j).0 (b j).1 ∷ [])

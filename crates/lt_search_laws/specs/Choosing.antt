@@ -1,7 +1,7 @@
 -- The statement with the candidates that a choice list names, and what one number more adds to its equations.
-use Rattle.std.specs.Prelude.{◌≡◌, ℕ, suc, zero, ◌+◌, ◌≤◌, List, [], ◌∷◌, ◌++◌, Option, Some, None, slice_get, length, take, drop}
+use Rattle.std.specs.Prelude.{◌≡◌, ℕ, suc, zero, ◌+◌, ◌≤◌, List, [], ◌∷◌, ◌++◌, Option, Some, None, slice_get, true, length, take, drop}
 use Rattle.lt_definitions.specs.Types.{Chars, TypeTree}
-use Rattle.lt_definitions.specs.Terms.{TermTree, free_variable, bound_name, constant, application, abstraction}
+use Rattle.lt_definitions.specs.Terms.{TermTree, free_variable, bound_name, constant, application, abstraction, is_closed}
 use Rattle.lt_definitions.specs.Typing.{Signature}
 use Rattle.lt_transport_definitions.specs.Relations.{Relation, Registry}
 use Rattle.lt_transport_definitions.specs.Expressions.{normal_equality}
@@ -34,14 +34,6 @@ number_behind n [] = None
 number_behind zero (i ∷ p) = Some i
 number_behind (suc n) (i ∷ p) = number_behind n p
 
--- No free variable stands in the statement.
-abbrev pub HasNoFree : TermTree → Type 0
-HasNoFree (free_variable x t) = ⊥
-HasNoFree (bound_name x) = Unit {0}
-HasNoFree (constant c ts) = Unit {0}
-HasNoFree (application f a) = HasNoFree f × HasNoFree a
-HasNoFree (abstraction x t b) = HasNoFree b
-
 -- the places of the constants, an argument's before its head's
 abbrev pub places : ℕ → TermTree → List ℕ
 places k (free_variable x t) = []
@@ -62,7 +54,7 @@ candidate_slots (Some rule) = length rule.variables
 
 -- A choice list gives a statement with its candidates, and one number more adds one equation at the end.
 pub record ChoicesGrow : Type 0 where
-  pub of_statement : (rules : List TransferRule) (t : TermTree) (p : List ℕ) → HasNoFree t → statement_of (choose rules t p) ≡ t
+  pub of_statement : (rules : List TransferRule) (t : TermTree) (p : List ℕ) → is_closed t ≡ true → statement_of (choose rules t p) ≡ t
   pub by_candidates : (q : Question) (p : List ℕ) → AreChoices q (occurrences q.statement) p → AreCandidates q.rules (choose q.rules q.statement p)
   pub filled : (q : Question) (p : List ℕ) → AreChoices q (occurrences q.statement) p
       → AreFilled (numbers_of (choose q.rules q.statement p) ++ number_behind (length (occurrences q.statement)) p ∷ []) p
