@@ -1,2 +1,5 @@
--- Lemmas of the walk.
+-- Lemmas of expressions, of equations and of the walk.
+pub mod Layers
+pub mod Runs
+pub mod Resolved
 pub mod WalkLemmas

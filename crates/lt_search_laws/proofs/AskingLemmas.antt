@@ -4,15 +4,22 @@ use Rattle.std.proofs.lemmas.List.{length-append}
 use Rattle.std.proofs.lemmas.Option.{slice_get_within}
 use Rattle.lt_definitions.specs.Types.{Chars, TypeTree, bool}
 use Rattle.lt_definitions.specs.Terms.{is_closed}
+use Rattle.lt_definitions.specs.Typing.{HasType}
 use Rattle.lt_transport_definitions.specs.Relations.{Relation}
 use Rattle.lt_transport_definitions.specs.Candidates.{occurrences, candidates}
 use Rattle.lt_transport_definitions.specs.Correspondence.{statement_of}
-use Rattle.lt_transport_definitions.specs.Search.{Question, top_candidates, AreChoices}
+use Rattle.lt_transport_definitions.specs.Search.{Question, Solution, top_candidates, AreChoices}
+use Rattle.lt_unify.specs.Tree.{Tree}
+use Rattle.lt_unify.specs.Solutions.{IsMostGeneral, HasNoUnifier, KeepsRelations}
+use Rattle.lt_search_laws.specs.RelationTrees.{relation_tree, equation_trees}
 use Rattle.lt_search_laws.specs.Equations.{size, rule_slots, expression_at, structure_at, choices_at}
-use Rattle.lt_search_laws.specs.Slots.{numbered_variable, top_equation, chosen_top, IsTop, HasNodes, HasChoices, IsPosed}
+use Rattle.lt_search_laws.specs.Slots.{numbered_variable, top_equation, chosen_top, IsTop, HasNodes, HasChoices, IsPosed, IsSolvedBy, NoneUnifies}
 use Rattle.lt_search_laws.specs.Choosing.{choose, number_behind, places, candidate_equation}
 use Rattle.lt_search_laws.specs.Asking.{IsAsked, chosen_of, top_of, equations_of, PrefixesGrow}
 use Rattle.lt_search_laws.proofs.ChoosingLemmas.{choose-is, choose-size, choices-name, choose-candidates, choose-filled, choose-grown, choose-past}
+use Rattle.lt_search_laws.proofs.SlotTypes.{slots-there}
+use Rattle.lt_search_laws.proofs.Live.{step-solved, step-none}
+use Rattle.lt_search_laws.proofs.Answering.{none-unifies-none}
 
 some-is : (o : Option Relation) → IsSome o → (t : Relation) × (o ≡ Some t)
 some-is None h = absurd (cc (h))
@@ -99,9 +106,54 @@ module _ (q : Question) (closed : is_closed q.statement ≡ true) where
       ++ top_equation (o j) (expression_at numbered_variable 0 [] (is j)))) in
       new ∙ behind-all structure (chosen p) e ∙ ap (λ u. u ++ e) (sym old)
 
+prefix-posed-so : (q : Question) → IsAsked q → (p : List ℕ) → AreChoices q (occurrences q.statement) p
+    → (τ : ℕ → TypeTree) × IsPosed q p (chosen_of q p) (top_of q p) τ
+prefix-posed-so q a p h =
+    let is = choose-is q.rules q.statement p a.closed in
+    let w = slots-there q.signature (chosen_of q p) bool (subst (λ t. HasType q.signature [] t bool) (sym is) a.boolean) in (
+      w.0,
+      record {
+        registry = a.sound.is_registry;
+        implies = a.implies;
+        rules = a.sound.are_typed;
+        of_statement = is;
+        candidates = choose-candidates q.rules q.statement p (choices-name q (occurrences q.statement) p h);
+        top_there = top-named q (occurrences q.statement) p h;
+        filled = choose-filled q p h;
+        typed_nodes = w.1;
+        typed_choices = w.2;
+      },
+    )
+
+-- one equation more, as trees
+tree-more : (es : List (Relation × Relation)) (e : Relation × Relation) → equation_trees (es ++ e ∷ []) ≡ equation_trees es ++ (relation_tree e.0, relation_tree e.1) ∷ []
+tree-more [] e = refl
+tree-more (x ∷ es) e = ap (λ z. (relation_tree x.0, relation_tree x.1) ∷ z) (tree-more es e)
+
+next-dead : (q : Question) → IsAsked q → (p : List ℕ) (i : ℕ) (e : Relation × Relation) (bs : List (ℕ × Tree))
+    → AreChoices q (occurrences q.statement) (p ++ i ∷ []) → equations_of q (p ++ i ∷ []) ≡ equations_of q p ++ e ∷ []
+    → IsSolvedBy (equation_trees (equations_of q p)) bs → HasNoUnifier bs (relation_tree e.0) (relation_tree e.1)
+    → Solution q (p ++ i ∷ []) → ⊥
+next-dead q a p i e bs h grown found none =
+    let w = prefix-posed-so q a (p ++ i ∷ []) h in
+    let n = step-none (equation_trees (equations_of q p)) bs (relation_tree e.0) (relation_tree e.1) [] found none in
+    let m = subst NoneUnifies (sym (ap equation_trees grown ∙ tree-more (equations_of q p) e)) n in
+    none-unifies-none q (p ++ i ∷ []) (chosen_of q (p ++ i ∷ [])) (top_of q (p ++ i ∷ [])) w.0 w.1 m
+
+next-gone-on : (q : Question) (p : List ℕ) (i : ℕ) (e : Relation × Relation) (old new : List (ℕ × Tree))
+    → equations_of q (p ++ i ∷ []) ≡ equations_of q p ++ e ∷ [] → IsSolvedBy (equation_trees (equations_of q p)) old
+    → IsMostGeneral old (relation_tree e.0) (relation_tree e.1) new → KeepsRelations old (relation_tree e.0) (relation_tree e.1) new
+    → IsSolvedBy (equation_trees (equations_of q (p ++ i ∷ []))) new
+next-gone-on q p i e old new grown found most keeps =
+    subst (λ es. IsSolvedBy es new) (sym (ap equation_trees grown ∙ tree-more (equations_of q p) e))
+    (step-solved (equation_trees (equations_of q p)) old (relation_tree e.0) (relation_tree e.1) new found most keeps)
+
 pub prefixes-grow : PrefixesGrow
 prefixes-grow = record {
   posed = prefix-posed;
   occurrence = occurrence-grown;
   top = top-grown;
+  posed_so = prefix-posed-so;
+  dead = next-dead;
+  gone_on = next-gone-on;
 }

@@ -7,9 +7,12 @@ use Rattle.lt_transport_definitions.specs.Relations.{Relation}
 use Rattle.lt_transport_definitions.specs.Expressions.{right, IsExpression, implication}
 use Rattle.lt_transport_definitions.specs.Candidates.{occurrences, candidates}
 use Rattle.lt_transport_definitions.specs.Correspondence.{ChosenStatement}
-use Rattle.lt_transport_definitions.specs.Search.{Question, top_candidates, AreChoices}
+use Rattle.lt_transport_definitions.specs.Search.{Question, Solution, top_candidates, AreChoices}
+use Rattle.lt_unify.specs.Tree.{Tree}
+use Rattle.lt_unify.specs.Solutions.{IsMostGeneral, HasNoUnifier, KeepsRelations}
+use Rattle.lt_search_laws.specs.RelationTrees.{relation_tree, equation_trees}
 use Rattle.lt_search_laws.specs.Equations.{size, rule_slots, expression_at}
-use Rattle.lt_search_laws.specs.Slots.{numbered_variable, prefix_equations, HasNodes, HasChoices, IsPosed}
+use Rattle.lt_search_laws.specs.Slots.{numbered_variable, prefix_equations, HasNodes, HasChoices, IsPosed, IsSolvedBy}
 use Rattle.lt_search_laws.specs.Choosing.{choose, number_behind, places, candidate_equation}
 use Rattle.lt_search_laws.specs.Walk.{IsSound}
 
@@ -42,3 +45,13 @@ pub record PrefixesGrow : Type 0 where
   pub top : (q : Question) → is_closed q.statement ≡ true → (p : List ℕ) (i : ℕ) (t : Relation) → length p ≡ length (occurrences q.statement)
       → slice_get (top_candidates q.top) i ≡ Some t
       → equations_of q (p ++ i ∷ []) ≡ equations_of q p ++ (expression_at numbered_variable 0 [] q.statement, t) ∷ []
+  pub posed_so : (q : Question) → IsAsked q → (p : List ℕ) → AreChoices q (occurrences q.statement) p
+      → (τ : ℕ → TypeTree) × IsPosed q p (chosen_of q p) (top_of q p) τ
+  pub dead : (q : Question) → IsAsked q → (p : List ℕ) (i : ℕ) (e : Relation × Relation) (bs : List (ℕ × Tree))
+      → AreChoices q (occurrences q.statement) (p ++ i ∷ []) → equations_of q (p ++ i ∷ []) ≡ equations_of q p ++ e ∷ []
+      → IsSolvedBy (equation_trees (equations_of q p)) bs → HasNoUnifier bs (relation_tree e.0) (relation_tree e.1)
+      → Solution q (p ++ i ∷ []) → ⊥
+  pub gone_on : (q : Question) (p : List ℕ) (i : ℕ) (e : Relation × Relation) (old new : List (ℕ × Tree))
+      → equations_of q (p ++ i ∷ []) ≡ equations_of q p ++ e ∷ [] → IsSolvedBy (equation_trees (equations_of q p)) old
+      → IsMostGeneral old (relation_tree e.0) (relation_tree e.1) new → KeepsRelations old (relation_tree e.0) (relation_tree e.1) new
+      → IsSolvedBy (equation_trees (equations_of q (p ++ i ∷ []))) new
