@@ -2,4 +2,5 @@
 pub mod Layers
 pub mod Runs
 pub mod Resolved
+pub mod TableLemmas
 pub mod WalkLemmas

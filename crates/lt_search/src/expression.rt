@@ -22,7 +22,12 @@ pub enum Expression {
 }
 
 /// The head of a constructor over other arguments.
-fn constructed(alloc: Global, name: &Name, types: &Tys, children: Vec<Expression>) -> Result<Expression, Memory>
+fn constructed(
+    alloc: Global,
+    name: &Name,
+    types: &Tys,
+    children: Vec<Expression>,
+) -> Result<Expression, Memory>
     ensures { IfOk result (λ r. relation_of r ≡ constructed name.now types.now (relation_row (map relation_of children.items))) }
 {
     let name = match name.copy(alloc) {

@@ -35,7 +35,11 @@ pub fn solve_all(
 }
 
 /// What each of some expressions is resolved to.
-pub fn resolve_all(alloc: Global, bindings: &Bindings<Expression>, parts: &[Expression]) -> Result<Vec<Expression>, Memory>
+pub fn resolve_all(
+    alloc: Global,
+    bindings: &Bindings<Expression>,
+    parts: &[Expression],
+) -> Result<Vec<Expression>, Memory>
     ensures { IfOk result (λ all. map expression_tree all.items ≡ resolved_trees bindings.now.pairs parts.now) }
 {
     let mut all = Vec::new(alloc);

@@ -53,7 +53,11 @@ pub trait Prefixes: Drop {
 /// Goes to the first whole choice list that has a solution, and tells how many prefixes were visited.
 ///
 /// Each visit is one call of `add`, and there are at most as many calls of `back`.
-pub fn first_answer<P: Prefixes>(alloc: Global, prefixes: &mut P, limit: u64) -> Result<u64, WalkFault>
+pub fn first_answer<P: Prefixes>(
+    alloc: Global,
+    prefixes: &mut P,
+    limit: u64,
+) -> Result<u64, WalkFault>
     requires sound { IsSound (P.question prefixes.old) }
     requires start { P.choices prefixes.old ≡ [] }
     ensures asked { IfOk result (λ n. P.question prefixes.new ≡ P.question prefixes.old) }

@@ -25,14 +25,14 @@ returns-in-None-clause-none g c =
     let question = g.P.Prefixes.question in
     let choices = g.P.Prefixes.choices in
     λ is. loop-ended (question c.walk.prefixes) (question c.args.prefixes.now) c.walk.invariant.asked c.requires.sound
-        (choices c.walk.prefixes) c.walk.next c.walk.visits c.candidates.result c.args.limit c.walk.invariant.stands c.candidates.ensures c.if-next-candidates.true c.in-None.ensures.back c.walk.invariant.within
+    (choices c.walk.prefixes) c.walk.next c.walk.visits c.candidates.result c.args.limit c.walk.invariant.stands c.candidates.ensures c.if-next-candidates.true c.in-None.ensures.back c.walk.invariant.within
 
 pub returns-then-visits-limit-clause-limit : goal.returns-then-visits-limit-clause-limit
 returns-then-visits-limit-clause-limit g c =
     let question = g.P.Prefixes.question in
     let choices = g.P.Prefixes.choices in
     λ is. loop-limited (question c.walk.prefixes) (question c.args.prefixes.now) c.walk.invariant.asked c.requires.sound
-        (choices c.walk.prefixes) c.walk.next c.walk.visits c.candidates.result c.args.limit c.walk.invariant.stands c.candidates.ensures (omega (arith, c.if-next-candidates.false)) c.if-visits-limit.true
+    (choices c.walk.prefixes) c.walk.next c.walk.visits c.candidates.result c.args.limit c.walk.invariant.stands c.candidates.ensures (omega (arith, c.if-next-candidates.false)) c.if-visits-limit.true
 
 pub returns-then-is_whole-clause-found : goal.returns-then-is_whole-clause-found
 returns-then-is_whole-clause-found g c =
