@@ -2,5 +2,4 @@
 pub mod Layers
 pub mod Runs
 pub mod Resolved
-pub mod TableLemmas
 pub mod WalkLemmas

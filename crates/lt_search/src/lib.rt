@@ -4,11 +4,9 @@
 mod choice;
 mod expression;
 mod solving;
-mod table;
 mod walk;
 
 pub use choice::{Choice, Picks, Top};
 pub use expression::{Equation, Expression};
 pub use solving::{resolve_all, solve_all};
-pub use table::constant_places;
 pub use walk::{Prefixes, WalkFault, first_answer};
