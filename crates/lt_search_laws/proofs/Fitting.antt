@@ -3,13 +3,14 @@ use Rattle.std.specs.Prelude.{if◌then◌else◌}
 use Rattle.std.proofs.Common.{◌≡◌, ℕ, zero, suc, ◌+◌, List, [], ◌∷◌, ◌++◌, length, Some, slice_get, refl, subst, sym, ap, ◌∙◌, inl, inr, arith}
 use Rattle.std.proofs.lemmas.Bool.{cases_Bool}
 use Rattle.lt_definitions.specs.Types.{Chars, same_name, found, TypeTree, fun, TypeMap}
+use Rattle.lt_definitions.specs.Terms.{TermTree, free_variable, bound_name, constant, application, abstraction}
 use Rattle.lt_definitions.specs.Typing.{Signature}
 use Rattle.lt_transport_definitions.specs.Relations.{Relation, relation_variable, equality, constructed, Relations, no_relations, relation_and, relation_row, RelationVariable, Registry, kind_of}
 use Rattle.lt_transport_definitions.specs.Expressions.{right_of, right, normal_equality, IsExpression, function_relator}
 use Rattle.lt_transport_definitions.specs.Below.{Below, AreBelow, SideAt}
 use Rattle.lt_transport_definitions.specs.RuleForm.{TransferRule}
 use Rattle.lt_transport_definitions.specs.Candidates.{type_at, match_of, fits, candidates}
-use Rattle.lt_transport_definitions.specs.Correspondence.{ChosenStatement, chosen_name, chosen_rule, chosen_equality, not_chosen, chosen_application, chosen_abstraction, Assignment, AreCandidates, relation_instance, AreValues, IsAssignment, Corresponds}
+use Rattle.lt_transport_definitions.specs.Correspondence.{ChosenStatement, chosen_name, chosen_rule, chosen_equality, not_chosen, chosen_application, chosen_abstraction, statement_of, Assignment, AreCandidates, relation_instance, AreValues, IsAssignment, Corresponds}
 use Rattle.lt_transport_laws.proofs.Sides.{EachBelow}
 use Rattle.lt_unify.specs.Solutions.{AllRelated}
 use Rattle.lt_transport_laws.specs.Statements.{IsRegistry, AreTyped}
@@ -18,11 +19,11 @@ use Rattle.lt_transport_laws.proofs.Equalities.{right-equality, expression-equal
 use Rattle.lt_transport_laws.proofs.Lowers.{are_below-rights}
 use Rattle.lt_transport_laws.proofs.Assignments.{has-below, BelowIn}
 use Rattle.lt_transport_laws.proofs.Typing.{among, chosen-typed}
-use Rattle.lt_search_laws.specs.Equations.{under, all_under, slots, numbered, reading, bound_in, expression_at, equations_at}
+use Rattle.lt_search_laws.specs.Equations.{under, all_under, size, rule_slots, numbered, reading, bound_in, expression_at, applied_equation, structure_at, choices_at}
 use Rattle.lt_search_laws.specs.RelationTrees.{relation_tree, equation_trees}
-use Rattle.lt_search_laws.specs.Slots.{SlotsOf, HasSlots, SidesHold}
+use Rattle.lt_search_laws.specs.Slots.{SlotsOf, HasNodes, HasChoices, SidesHold}
 use Rattle.lt_search_laws.proofs.Parts.{tree_type, same_right, is-same, IsFitting, expression-typed, Comes}
-use Rattle.lt_search_laws.proofs.Systems.{IsNumbered, under-equality, under-instance, IsProper, names_under, binds-under, Gives, values_of, values_of-length}
+use Rattle.lt_search_laws.proofs.Systems.{IsNumbered, under-equality, under-instance, IsProper, names_under, binds-under, Gives, node_values, node_values-length, rule_values, rule_values-length}
 
 pub function-comes : (G : Registry) (r s : Relation) (t u : TypeTree) → Comes G r t → Comes G s u → Comes G (function_relator r s) (fun t u)
 function-comes G r s t u h k =
@@ -100,17 +101,19 @@ bound-there e (p ∷ ps) x d h = elim (cases_Bool (same_name x p.0)) [
       (w.0, ap (λ b. if b then Some p.1 else found x ps) y ∙ w.1))
 ]
 
--- a chosen statement whose slots are are_typed is proper
-pub slots-proper : (G : Registry) (sig : Signature) (rules : List TransferRule) → AreTyped G sig rules → (τ : ℕ → TypeTree) (n : ℕ) (names : List (Chars × Relation)) (env : List (Chars × TypeTree)) (K : ChosenStatement) (ty : TypeTree)
-    → HasSlots sig τ n env K ty → AreCandidates rules K → ((x : Chars) (t : TypeTree) → found x env ≡ Some t → (c : Relation) × (found x names ≡ Some c)) → IsProper G names K
-slots-proper G sig rules are_typed τ n names env (chosen_name x) ty h k b = b x ty h
-slots-proper G sig rules are_typed τ n names env (chosen_rule c ts i rule) ty h k b = (among G sig (fits c ts) rules i rule are_typed k).1.formed
-slots-proper G sig rules are_typed τ n names env (chosen_equality c ts) ty h k b = tt
-slots-proper G sig rules are_typed τ n names env (not_chosen c ts) ty h k b = tt
-slots-proper G sig rules are_typed τ n names env (chosen_application f a) ty h k b =
-    (slots-proper G sig rules are_typed τ (suc n) names env f (fun h.0 ty) h.2 k.0 b, slots-proper G sig rules are_typed τ (suc n + slots f) names env a h.0 h.3 k.1 b)
-slots-proper G sig rules are_typed τ n names env (chosen_abstraction x u c) ty h k b =
-    λ r. slots-proper G sig rules are_typed τ (suc n) ((x, r) ∷ names) ((x, u) ∷ env) c h.0 h.3 k (λ y t l. bind x u r names env b y t l)
+-- a chosen statement with types for its nodes is proper
+pub slots-proper : (G : Registry) (sig : Signature) (rules : List TransferRule) → AreTyped G sig rules → (τ : ℕ → TypeTree) (k : ℕ) (names : List (Chars × Relation)) (env : List (Chars × TypeTree)) (K : ChosenStatement) (ty : TypeTree)
+    → HasNodes sig τ k env (statement_of K) ty → AreCandidates rules K → ((x : Chars) (t : TypeTree) → found x env ≡ Some t → (c : Relation) × (found x names ≡ Some c)) → IsProper G names K
+slots-proper G sig rules are_typed τ k names env (chosen_name x) ty h c b = b x ty h.0
+slots-proper G sig rules are_typed τ k names env (chosen_rule d ts i rule) ty h c b = (among G sig (fits d ts) rules i rule are_typed c).1.formed
+slots-proper G sig rules are_typed τ k names env (chosen_equality d ts) ty h c b = tt
+slots-proper G sig rules are_typed τ k names env (not_chosen d ts) ty h c b = tt
+slots-proper G sig rules are_typed τ k names env (chosen_application f a) ty h c b = (
+  slots-proper G sig rules are_typed τ k names env f (fun h.0 ty) h.2 c.0 b,
+  slots-proper G sig rules are_typed τ (k + size (statement_of f)) names env a h.0 h.3 c.1 b,
+)
+slots-proper G sig rules are_typed τ k names env (chosen_abstraction x u d) ty h c b =
+    λ r. slots-proper G sig rules are_typed τ k ((x, r) ∷ names) ((x, u) ∷ env) d h.0 h.3 c (λ y t l. bind x u r names env b y t l)
   where
     bind : (x : Chars) (u : TypeTree) (r : Relation) (names : List (Chars × Relation)) (env : List (Chars × TypeTree)) → ((x : Chars) (t : TypeTree) → found x env ≡ Some t → (c : Relation) × (found x names ≡ Some c))
         → (y : Chars) (t : TypeTree) → found y ((x, u) ∷ env) ≡ Some t → (c : Relation) × (found y ((x, r) ∷ names) ≡ Some c)
@@ -120,25 +123,23 @@ slots-proper G sig rules are_typed τ n names env (chosen_abstraction x u c) ty 
     ]
 
 -- the expression of a statement has its type under a fitting replacement
-pub expression-comes : (G : Registry) → IsRegistry G → (sig : Signature) (rules : List TransferRule) → AreTyped G sig rules → (τ : ℕ → TypeTree) (e var : ℕ → Relation) → IsFitting G τ e → IsNumbered var
-    → (n : ℕ) (names : List (Chars × Relation)) (env : List (Chars × TypeTree)) (K : ChosenStatement) (ty : TypeTree) → HasSlots sig τ n env K ty → AreCandidates rules K → UnderFit G e names env
-    → Comes G (under e (expression_at G sig var n names K)) ty
-expression-comes G ok sig rules are_typed τ e var fit num n names env (chosen_name x) ty h k l =
-    let w = name-there G (names_under e names) env x ty l h in
+pub expression-comes : (G : Registry) (sig : Signature) (τ : ℕ → TypeTree) (e var : ℕ → Relation) → IsFitting G τ e → IsNumbered var
+    → (k : ℕ) (names : List (Chars × Relation)) (env : List (Chars × TypeTree)) (t : TermTree) (ty : TypeTree) → HasNodes sig τ k env t ty → UnderFit G e names env
+    → Comes G (under e (expression_at var k names t)) ty
+expression-comes G sig τ e var fit num k names env (free_variable x u) ty h l = absurd h
+expression-comes G sig τ e var fit num k names env (bound_name x) ty h l =
+    let w = name-there G (names_under e names) env x ty l h.0 in
     let b = bound-there e names x w.0 w.1 in
-    name-fits G (names_under e names) env x (under e (bound_in names x)) ty l h (binds-under e names x b.0 b.1)
-expression-comes G ok sig rules are_typed τ e var fit num n names env (chosen_rule c ts i rule) ty h k l =
-    subst (λ r. Comes G r ty) (sym (under-instance G (match_of rule ts) e var num n rule.variables rule.relation (among G sig (fits c ts) rules i rule are_typed k).1.formed))
-    (rule-comes G ok sig rules are_typed c ts i rule (numbered e n rule.variables) ty k (values-fit G τ e fit n (match_of rule ts) rule.variables h.1) h.0)
-expression-comes G ok sig rules are_typed τ e var fit num n names env (chosen_equality c ts) ty h k l =
-    subst (λ r. Comes G r ty) (sym (under-equality G e (type_at sig c ts))) (subst (Comes G (normal_equality G (type_at sig c ts))) h (equality-comes G ok (type_at sig c ts)))
-expression-comes G ok sig rules are_typed τ e var fit num n names env (not_chosen c ts) ty h k l = subst (λ r. Comes G r ty) (sym (num e n)) (fit-comes G τ e fit n ty h.1)
-expression-comes G ok sig rules are_typed τ e var fit num n names env (chosen_application f a) ty h k l = subst (λ r. Comes G r ty) (sym (num e n)) (fit-comes G τ e fit n ty h.1)
-expression-comes G ok sig rules are_typed τ e var fit num n names env (chosen_abstraction x u b) ty h k l =
+    name-fits G (names_under e names) env x (under e (bound_in names x)) ty l h.0 (binds-under e names x b.0 b.1)
+expression-comes G sig τ e var fit num k names env (constant c ts) ty h l = subst (λ r. Comes G r ty) (sym (num e k)) (fit-comes G τ e fit k ty h.1)
+expression-comes G sig τ e var fit num k names env (application f a) ty h l =
+    subst (λ r. Comes G r ty) (sym (num e (k + size f + size a))) (fit-comes G τ e fit (k + size f + size a) ty h.1)
+expression-comes G sig τ e var fit num k names env (abstraction x u b) ty h l =
+    let n = k + size b in
     let v : Comes G (under e (var n)) u = subst (λ r. Comes G r u) (sym (num e n)) (fit-comes G τ e fit n u h.2) in
-    let w = expression-comes G ok sig rules are_typed τ e var fit num (suc n) ((x, var n) ∷ names) ((x, u) ∷ env) b h.0 h.3 k (refl, v, l) in
-    subst (Comes G (function_relator (under e (var n)) (under e (expression_at G sig var (suc n) ((x, var n) ∷ names) b)))) h.1
-    (function-comes G (under e (var n)) (under e (expression_at G sig var (suc n) ((x, var n) ∷ names) b)) u h.0 v w)
+    let w = expression-comes G sig τ e var fit num k ((x, var n) ∷ names) ((x, u) ∷ env) b h.0 h.3 (refl, v, l) in
+    subst (Comes G (function_relator (under e (var n)) (under e (expression_at var k ((x, var n) ∷ names) b)))) h.1
+    (function-comes G (under e (var n)) (under e (expression_at var k ((x, var n) ∷ names) b)) u h.0 v w)
 
 -- both sides of each equation are expressions of one right type
 abbrev pub AllAlike : Registry → (ℕ → Relation) → List (Relation × Relation) → Type 0
@@ -149,25 +150,49 @@ pub alike-both : (G : Registry) (e : ℕ → Relation) (es fs : List (Relation �
 alike-both G e [] fs h k = k
 alike-both G e (x ∷ es) fs h k = (h.0, alike-both G e es fs h.1 k)
 
-pub equations-alike : (G : Registry) → IsRegistry G → (sig : Signature) (rules : List TransferRule) → AreTyped G sig rules → (τ : ℕ → TypeTree) (e var : ℕ → Relation) → IsFitting G τ e → IsNumbered var
-    → (n : ℕ) (names : List (Chars × Relation)) (env : List (Chars × TypeTree)) (K : ChosenStatement) (ty : TypeTree) → HasSlots sig τ n env K ty → AreCandidates rules K → UnderFit G e names env
-    → AllAlike G e (equations_at G sig var n names K)
-equations-alike G ok sig rules are_typed τ e var fit num n names env (chosen_name x) ty h k l = tt
-equations-alike G ok sig rules are_typed τ e var fit num n names env (chosen_rule c ts i rule) ty h k l = tt
-equations-alike G ok sig rules are_typed τ e var fit num n names env (chosen_equality c ts) ty h k l = tt
-equations-alike G ok sig rules are_typed τ e var fit num n names env (not_chosen c ts) ty h k l = tt
-equations-alike G ok sig rules are_typed τ e var fit num n names env (chosen_application f a) ty h k l =
-    let x = expression-comes G ok sig rules are_typed τ e var fit num (suc n) names env f (fun h.0 ty) h.2 k.0 l in
-    let y = expression-comes G ok sig rules are_typed τ e var fit num (suc n + slots f) names env a h.0 h.3 k.1 l in
-    let v : Comes G (under e (var n)) ty = subst (λ r. Comes G r ty) (sym (num e n)) (fit-comes G τ e fit n ty h.1) in (
-      (fun h.0 ty, x, function-comes G (under e (expression_at G sig var (suc n + slots f) names a)) (under e (var n)) h.0 ty y v),
-      alike-both G e (equations_at G sig var (suc n) names f) (equations_at G sig var (suc n + slots f) names a)
-          (equations-alike G ok sig rules are_typed τ e var fit num (suc n) names env f (fun h.0 ty) h.2 k.0 l)
-          (equations-alike G ok sig rules are_typed τ e var fit num (suc n + slots f) names env a h.0 h.3 k.1 l),
-    )
-equations-alike G ok sig rules are_typed τ e var fit num n names env (chosen_abstraction x u b) ty h k l =
+pub structure-alike : (G : Registry) (sig : Signature) (τ : ℕ → TypeTree) (e var : ℕ → Relation) → IsFitting G τ e → IsNumbered var
+    → (k : ℕ) (names : List (Chars × Relation)) (env : List (Chars × TypeTree)) (t : TermTree) (ty : TypeTree) → HasNodes sig τ k env t ty → UnderFit G e names env
+    → AllAlike G e (structure_at var k names t)
+structure-alike G sig τ e var fit num k names env (free_variable x u) ty h l = tt
+structure-alike G sig τ e var fit num k names env (bound_name x) ty h l = tt
+structure-alike G sig τ e var fit num k names env (constant c ts) ty h l = tt
+structure-alike G sig τ e var fit num k names env (application f a) ty h l =
+    let c = k + size f in
+    let n = k + size f + size a in
+    let x = expression-comes G sig τ e var fit num k names env f (fun h.0 ty) h.2 l in
+    let y = expression-comes G sig τ e var fit num c names env a h.0 h.3 l in
+    let v : Comes G (under e (var n)) ty = subst (λ r. Comes G r ty) (sym (num e n)) (fit-comes G τ e fit n ty h.1) in
+    alike-both G e (structure_at var k names f) (structure_at var c names a ++ applied_equation var k names f a ∷ [])
+    (structure-alike G sig τ e var fit num k names env f (fun h.0 ty) h.2 l)
+    (alike-both G e (structure_at var c names a) (applied_equation var k names f a ∷ [])
+    (structure-alike G sig τ e var fit num c names env a h.0 h.3 l)
+    ((fun h.0 ty, x, function-comes G (under e (expression_at var c names a)) (under e (var n)) h.0 ty y v), tt))
+structure-alike G sig τ e var fit num k names env (abstraction x u b) ty h l =
+    let n = k + size b in
     let v : Comes G (under e (var n)) u = subst (λ r. Comes G r u) (sym (num e n)) (fit-comes G τ e fit n u h.2) in
-    equations-alike G ok sig rules are_typed τ e var fit num (suc n) ((x, var n) ∷ names) ((x, u) ∷ env) b h.0 h.3 k (refl, v, l)
+    structure-alike G sig τ e var fit num k ((x, var n) ∷ names) ((x, u) ∷ env) b h.0 h.3 (refl, v, l)
+
+pub choices-alike : (G : Registry) → IsRegistry G → (sig : Signature) (rules : List TransferRule) → AreTyped G sig rules → (τ : ℕ → TypeTree) (e var : ℕ → Relation) → IsFitting G τ e → IsNumbered var
+    → (k m : ℕ) (env : List (Chars × TypeTree)) (K : ChosenStatement) (ty : TypeTree) → HasNodes sig τ k env (statement_of K) ty → HasChoices τ m K → AreCandidates rules K
+    → AllAlike G e (choices_at G sig var k m K)
+choices-alike G ok sig rules are_typed τ e var fit num k m env (chosen_name x) ty h s c = tt
+choices-alike G ok sig rules are_typed τ e var fit num k m env (chosen_rule d ts i rule) ty h s c =
+    let v : Comes G (under e (var k)) ty = subst (λ r. Comes G r ty) (sym (num e k)) (fit-comes G τ e fit k ty h.1) in
+    let w = subst (λ r. Comes G r ty) (sym (under-instance G (match_of rule ts) e var num m rule.variables rule.relation (among G sig (fits d ts) rules i rule are_typed c).1.formed))
+    (rule-comes G ok sig rules are_typed d ts i rule (numbered e m rule.variables) ty c (values-fit G τ e fit m (match_of rule ts) rule.variables s) h.0) in
+    ((ty, v, w), tt)
+choices-alike G ok sig rules are_typed τ e var fit num k m env (chosen_equality d ts) ty h s c =
+    let v : Comes G (under e (var k)) ty = subst (λ r. Comes G r ty) (sym (num e k)) (fit-comes G τ e fit k ty h.1) in
+    let w = subst (λ r. Comes G r ty) (sym (under-equality G e (type_at sig d ts))) (subst (Comes G (normal_equality G (type_at sig d ts))) h.0 (equality-comes G ok (type_at sig d ts))) in
+    ((ty, v, w), tt)
+choices-alike G ok sig rules are_typed τ e var fit num k m env (not_chosen d ts) ty h s c = tt
+choices-alike G ok sig rules are_typed τ e var fit num k m env (chosen_application f a) ty h s c =
+    let l = k + size (statement_of f) in
+    alike-both G e (choices_at G sig var l m a) (choices_at G sig var k (m + rule_slots a) f)
+    (choices-alike G ok sig rules are_typed τ e var fit num l m env a h.0 h.3 s.0 c.1)
+    (choices-alike G ok sig rules are_typed τ e var fit num k (m + rule_slots a) env f (fun h.0 ty) h.2 s.1 c.0)
+choices-alike G ok sig rules are_typed τ e var fit num k m env (chosen_abstraction x u b) ty h s c =
+    choices-alike G ok sig rules are_typed τ e var fit num k m ((x, u) ∷ env) b h.0 h.3 s c
 
 -- alike equations pass the test of right types
 pub alike-related : (G : Registry) (τ : ℕ → TypeTree) (e : ℕ → Relation) → IsFitting G τ e → (es : List (Relation × Relation)) → AllAlike G e es → AllRelated (same_right G τ) (equation_trees es)
@@ -182,16 +207,19 @@ alike-related G τ e fit (q ∷ es) h =
     )
 
 -- a fitting replacement under which the side conditions hold gives an assignment
-pub reading-assigned : (G : Registry) (sig : Signature) (τ : ℕ → TypeTree) (e : ℕ → Relation) → IsFitting G τ e → (n : ℕ) (env : List (Chars × TypeTree)) (K : ChosenStatement) (ty : TypeTree)
-    → HasSlots sig τ n env K ty → SidesHold G K (reading e n K) → IsAssignment G sig K (reading e n K)
-reading-assigned G sig τ e fit n env (chosen_name x) ty h k = tt
-reading-assigned G sig τ e fit n env (chosen_rule c ts i rule) ty h k = (values-fit G τ e fit n (match_of rule ts) rule.variables h.1, k)
-reading-assigned G sig τ e fit n env (chosen_equality c ts) ty h k = tt
-reading-assigned G sig τ e fit n env (not_chosen c ts) ty h k = (fit.expressions n, fit.types n ∙ h.1 ∙ sym h.0)
-reading-assigned G sig τ e fit n env (chosen_application f a) ty h k =
-    (reading-assigned G sig τ e fit (suc n) env f (fun h.0 ty) h.2 k.0, reading-assigned G sig τ e fit (suc n + slots f) env a h.0 h.3 k.1)
-reading-assigned G sig τ e fit n env (chosen_abstraction x u b) ty h k =
-    (fit.expressions n, fit.types n ∙ h.2, reading-assigned G sig τ e fit (suc n) ((x, u) ∷ env) b h.0 h.3 k)
+pub reading-assigned : (G : Registry) (sig : Signature) (τ : ℕ → TypeTree) (e : ℕ → Relation) → IsFitting G τ e → (k m : ℕ) (env : List (Chars × TypeTree)) (K : ChosenStatement) (ty : TypeTree)
+    → HasNodes sig τ k env (statement_of K) ty → HasChoices τ m K → SidesHold G K (reading e k m K) → IsAssignment G sig K (reading e k m K)
+reading-assigned G sig τ e fit k m env (chosen_name x) ty h s c = tt
+reading-assigned G sig τ e fit k m env (chosen_rule d ts i rule) ty h s c = (values-fit G τ e fit m (match_of rule ts) rule.variables s, c)
+reading-assigned G sig τ e fit k m env (chosen_equality d ts) ty h s c = tt
+reading-assigned G sig τ e fit k m env (not_chosen d ts) ty h s c = (fit.expressions k, fit.types k ∙ h.1 ∙ sym h.0)
+reading-assigned G sig τ e fit k m env (chosen_application f a) ty h s c = (
+  reading-assigned G sig τ e fit k (m + rule_slots a) env f (fun h.0 ty) h.2 s.1 c.0,
+  reading-assigned G sig τ e fit (k + size (statement_of f)) m env a h.0 h.3 s.0 c.1,
+)
+reading-assigned G sig τ e fit k m env (chosen_abstraction x u b) ty h s c =
+    let n = k + size (statement_of b) in
+    (fit.expressions n, fit.types n ∙ h.2, reading-assigned G sig τ e fit k m ((x, u) ∷ env) b h.0 h.3 s c)
 
 pub assigned-sides : (G : Registry) (sig : Signature) (K : ChosenStatement) (v : Assignment K) → IsAssignment G sig K v → SidesHold G K v
 assigned-sides G sig (chosen_name x) v h = tt
@@ -213,13 +241,14 @@ numbered-below : (G : Registry) (s t : ℕ → Relation) → ((n : ℕ) → Belo
 numbered-below G s t h n [] = tt
 numbered-below G s t h n (x ∷ xs) = (h n, numbered-below G s t h (suc n) xs)
 
-pub reading-below : (G : Registry) (s t : ℕ → Relation) → ((n : ℕ) → Below G (s n) (t n)) → (n : ℕ) (K : ChosenStatement) → BelowIn G K (reading s n K) (reading t n K)
-reading-below G s t h n (chosen_name x) = tt
-reading-below G s t h n (chosen_rule c ts i rule) = numbered-below G s t h n rule.variables
-reading-below G s t h n (chosen_equality c ts) = tt
-reading-below G s t h n (not_chosen c ts) = h n
-reading-below G s t h n (chosen_application f a) = (reading-below G s t h (suc n) f, reading-below G s t h (suc n + slots f) a)
-reading-below G s t h n (chosen_abstraction x u b) = (h n, reading-below G s t h (suc n) b)
+pub reading-below : (G : Registry) (s t : ℕ → Relation) → ((n : ℕ) → Below G (s n) (t n)) → (k m : ℕ) (K : ChosenStatement) → BelowIn G K (reading s k m K) (reading t k m K)
+reading-below G s t h k m (chosen_name x) = tt
+reading-below G s t h k m (chosen_rule c ts i rule) = numbered-below G s t h m rule.variables
+reading-below G s t h k m (chosen_equality c ts) = tt
+reading-below G s t h k m (not_chosen c ts) = h k
+reading-below G s t h k m (chosen_application f a) =
+    (reading-below G s t h k (m + rule_slots a) f, reading-below G s t h (k + size (statement_of f)) m a)
+reading-below G s t h k m (chosen_abstraction x u b) = (h (k + size (statement_of b)), reading-below G s t h k m b)
 
 mutual
   pub under-below : (G : Registry) (s t : ℕ → Relation) → ((n : ℕ) → Below G (s n) (t n)) → (r : Relation) → Below G (under s r) (under t r)
@@ -249,7 +278,7 @@ abbrev pub ValuesFit : Registry → (ℕ → TypeTree) → ℕ → List Relation
 ValuesFit G τ n [] = Unit {0}
 ValuesFit G τ n (v ∷ vs) = Comes G v (τ n) × ValuesFit G τ (suc n) vs
 
-fit-append : (G : Registry) (τ : ℕ → TypeTree) (n m : ℕ) (us vs : List Relation) → m ≡ n + length us → ValuesFit G τ n us → ValuesFit G τ m vs → ValuesFit G τ n (us ++ vs)
+pub fit-append : (G : Registry) (τ : ℕ → TypeTree) (n m : ℕ) (us vs : List Relation) → m ≡ n + length us → ValuesFit G τ n us → ValuesFit G τ m vs → ValuesFit G τ n (us ++ vs)
 fit-append G τ n m [] vs e h k = let p : m ≡ n = omega arith in subst (λ z. ValuesFit G τ z vs) p k
 fit-append G τ n m (u ∷ us) vs e h k = (h.0, fit-append G τ (suc n) m us vs (omega arith) h.1 k)
 
@@ -259,43 +288,55 @@ rule-fit G τ n m [] (v ∷ vs) h k = absurd k
 rule-fit G τ n m (x ∷ xs) [] h k = absurd k
 rule-fit G τ n m (x ∷ xs) (v ∷ vs) h k = (record { expression = k.0; right_is = k.1 ∙ sym h.0 }, rule-fit G τ (suc n) m xs vs h.1 k.2)
 
-pub record AllFit (G : Registry) (τ : ℕ → TypeTree) (n : ℕ) (e : Relation) (ty : TypeTree) (vs : List Relation) : Type 0 where
+pub record AllFit (G : Registry) (τ : ℕ → TypeTree) (k m : ℕ) (e : Relation) (ty : TypeTree) (vs ws : List Relation) : Type 0 where
   pub whole : Comes G e ty
-  pub each : ValuesFit G τ n vs
+  pub each : ValuesFit G τ k vs
+  pub picked : ValuesFit G τ m ws
 
-pub correspondence-fits : (G : Registry) → IsRegistry G → (sig : Signature) (rules : List TransferRule) → AreTyped G sig rules → (τ : ℕ → TypeTree) (n : ℕ) (names : List (Chars × Relation)) (env : List (Chars × TypeTree)) (K : ChosenStatement) (ty : TypeTree)
-    → HasSlots sig τ n env K ty → AreCandidates rules K → NamesFit G names env → (v : Assignment K) (e : Relation) → IsAssignment G sig K v → (h : Corresponds G sig names K v e)
-    → AllFit G τ n e ty (values_of G sig names K v e h)
-correspondence-fits G ok sig rules are_typed τ n names env (chosen_name x) ty s k l v e a h = record { whole = name-fits G names env x e ty l s h; each = tt }
-correspondence-fits G ok sig rules are_typed τ n names env (chosen_rule c ts i rule) ty s k l v e a h = record {
-  whole = subst (λ r. Comes G r ty) (sym h) (rule-comes G ok sig rules are_typed c ts i rule v ty k a.0 s.0);
-  each = rule-fit G τ n (match_of rule ts) rule.variables v s.1 a.0;
-}
-correspondence-fits G ok sig rules are_typed τ n names env (chosen_equality c ts) ty s k l v e a h = record {
-  whole = subst (λ r. Comes G r ty) (sym h) (subst (Comes G (normal_equality G (type_at sig c ts))) s (equality-comes G ok (type_at sig c ts)));
-  each = tt;
-}
-correspondence-fits G ok sig rules are_typed τ n names env (not_chosen c ts) ty s k l v e a h = record {
-  whole = record { expression = subst (IsExpression G) (sym h) a.0; right_is = ap (right G) h ∙ a.1 ∙ s.0 };
-  each = (record { expression = a.0; right_is = a.1 ∙ s.0 ∙ sym s.1 }, tt);
-}
-correspondence-fits G ok sig rules are_typed τ n names env (chosen_application f b) ty s k l v e a h =
-    let x = correspondence-fits G ok sig rules are_typed τ (suc n) names env f (fun s.0 ty) s.2 k.0 l v.0 (function_relator h.0 e) a.0 h.2 in
-    let y = correspondence-fits G ok sig rules are_typed τ (suc n + slots f) names env b s.0 s.3 k.1 l v.1 h.0 a.1 h.1 in
+-- an expression of a node's type fits its variable
+node-fit : (G : Registry) (τ : ℕ → TypeTree) (k : ℕ) (e : Relation) (ty : TypeTree) → τ k ≡ ty → Comes G e ty → ValuesFit G τ k (e ∷ [])
+node-fit G τ k e ty p h = (record { expression = h.expression; right_is = h.right_is ∙ sym p }, tt)
+
+pub correspondence-fits : (G : Registry) → IsRegistry G → (sig : Signature) (rules : List TransferRule) → AreTyped G sig rules → (τ : ℕ → TypeTree) (k m : ℕ) (names : List (Chars × Relation)) (env : List (Chars × TypeTree)) (K : ChosenStatement) (ty : TypeTree)
+    → HasNodes sig τ k env (statement_of K) ty → HasChoices τ m K → AreCandidates rules K → NamesFit G names env → (v : Assignment K) (e : Relation) → IsAssignment G sig K v → (h : Corresponds G sig names K v e)
+    → AllFit G τ k m e ty (node_values G sig names K v e h) (rule_values K v)
+correspondence-fits G ok sig rules are_typed τ k m names env (chosen_name x) ty s o c l v e a h =
+    let w = name-fits G names env x e ty l s.0 h in record { whole = w; each = node-fit G τ k e ty s.1 w; picked = tt }
+correspondence-fits G ok sig rules are_typed τ k m names env (chosen_rule d ts i rule) ty s o c l v e a h =
+    let w = subst (λ r. Comes G r ty) (sym h) (rule-comes G ok sig rules are_typed d ts i rule v ty c a.0 s.0) in
+    record { whole = w; each = node-fit G τ k e ty s.1 w; picked = rule-fit G τ m (match_of rule ts) rule.variables v o a.0 }
+correspondence-fits G ok sig rules are_typed τ k m names env (chosen_equality d ts) ty s o c l v e a h =
+    let w = subst (λ r. Comes G r ty) (sym h) (subst (Comes G (normal_equality G (type_at sig d ts))) s.0 (equality-comes G ok (type_at sig d ts))) in
+    record { whole = w; each = node-fit G τ k e ty s.1 w; picked = tt }
+correspondence-fits G ok sig rules are_typed τ k m names env (not_chosen d ts) ty s o c l v e a h =
+    let w : Comes G e ty = record { expression = subst (IsExpression G) (sym h) a.0; right_is = ap (right G) h ∙ a.1 ∙ s.0 } in
+    record { whole = w; each = node-fit G τ k e ty s.1 w; picked = tt }
+correspondence-fits G ok sig rules are_typed τ k m names env (chosen_application f b) ty s o c l v e a h =
+    let p = k + size (statement_of f) in
+    let n = k + size (statement_of f) + size (statement_of b) in
+    let x = correspondence-fits G ok sig rules are_typed τ k (m + rule_slots b) names env f (fun s.0 ty) s.2 o.1 c.0 l v.0 (function_relator h.0 e) a.0 h.2 in
+    let y = correspondence-fits G ok sig rules are_typed τ p m names env b s.0 s.3 o.0 c.1 l v.1 h.0 a.1 h.1 in
     let z = result-comes G h.0 e s.0 ty x.whole in
-    let fs = values_of G sig names f v.0 (function_relator h.0 e) h.2 in
-    let bs = values_of G sig names b v.1 h.0 h.1 in
-    let m = values_of-length G sig names f v.0 (function_relator h.0 e) h.2 a.0 in
+    let fs = node_values G sig names f v.0 (function_relator h.0 e) h.2 in
+    let bs = node_values G sig names b v.1 h.0 h.1 in
+    let fl = node_values-length G sig names f v.0 (function_relator h.0 e) h.2 in
+    let bl = node_values-length G sig names b v.1 h.0 h.1 in
+    let rl = rule_values-length G sig b v.1 a.1 in
     record {
       whole = z;
-      each = (record { expression = z.expression; right_is = z.right_is ∙ sym s.1 }, fit-append G τ (suc n) (suc n + slots f) fs bs (omega arith) x.each y.each);
+      each = fit-append G τ k p fs (bs ++ e ∷ []) (omega arith) x.each (fit-append G τ p n bs (e ∷ []) (omega arith) y.each (node-fit G τ n e ty s.1 z));
+      picked = fit-append G τ m (m + rule_slots b) (rule_values b v.1) (rule_values f v.0) (omega arith) y.picked x.picked;
     }
-correspondence-fits G ok sig rules are_typed τ n names env (chosen_abstraction x u b) ty s k l v e a h =
+correspondence-fits G ok sig rules are_typed τ k m names env (chosen_abstraction x u b) ty s o c l v e a h =
+    let n = k + size (statement_of b) in
     let w : Comes G v.0 u = record { expression = a.0; right_is = a.1 } in
-    let y = correspondence-fits G ok sig rules are_typed τ (suc n) ((x, v.0) ∷ names) ((x, u) ∷ env) b s.0 s.3 k (refl, w, l) v.1 h.0 a.2 h.2 in
+    let y = correspondence-fits G ok sig rules are_typed τ k m ((x, v.0) ∷ names) ((x, u) ∷ env) b s.0 s.3 o c (refl, w, l) v.1 h.0 a.2 h.2 in
+    let bs = node_values G sig ((x, v.0) ∷ names) b v.1 h.0 h.2 in
+    let bl = node_values-length G sig ((x, v.0) ∷ names) b v.1 h.0 h.2 in
     record {
       whole = subst (Comes G e) s.1 (subst (λ r. Comes G r (fun u s.0)) (sym h.1) (function-comes G v.0 h.0 u s.0 w y.whole));
-      each = (record { expression = a.0; right_is = a.1 ∙ sym s.2 }, y.each);
+      each = fit-append G τ k n bs (v.0 ∷ []) (omega arith) y.each (node-fit G τ n v.0 u s.2 w);
+      picked = y.picked;
     }
 
 -- the listed expressions, and behind them what a replacement gives

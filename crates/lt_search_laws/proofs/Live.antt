@@ -1,11 +1,11 @@
 -- What unification tells of a prefix.
-use Rattle.std.proofs.Common.{◌≡◌, ℕ, zero, suc, ◌+◌, List, [], ◌∷◌, ◌++◌, Option, Some, None, slice_get, refl, subst, sym, ap, ◌∙◌, Bool}
+use Rattle.std.proofs.Common.{◌≡◌, ℕ, zero, suc, ◌+◌, List, [], ◌∷◌, ◌++◌, Option, Some, None, slice_get, refl, subst, sym, ap, ◌∙◌, Bool, arith}
 use Rattle.lt_definitions.specs.Types.{TypeTree, bool}
 use Rattle.lt_definitions.specs.Terms.{implies}
 use Rattle.lt_transport_definitions.specs.Relations.{Relation, equality, no_relations, Registry}
 use Rattle.lt_transport_definitions.specs.Expressions.{right, equality_by, normal_equality, IsExpression, implication}
 use Rattle.lt_transport_definitions.specs.Below.{Below}
-use Rattle.lt_transport_definitions.specs.Correspondence.{ChosenStatement}
+use Rattle.lt_transport_definitions.specs.Correspondence.{ChosenStatement, statement_of}
 use Rattle.lt_transport_definitions.specs.Search.{Top, equal, implied, Question, top_candidates, TopHolds}
 use Rattle.lt_unify.specs.Tree.{Tree, Var, apply}
 use Rattle.lt_unify.specs.Solutions.{solution, Solves, IsMostGeneral, HasNoUnifier, AllRelated, KeepsRelations}
@@ -14,13 +14,13 @@ use Rattle.lt_transport_laws.specs.Statements.{IsRegistry}
 use Rattle.lt_transport_laws.proofs.Equalities.{right-equality, equality-is}
 use Rattle.lt_transport_laws.proofs.Meets.{equality-least}
 use Rattle.lt_transport_laws.proofs.Assignments.{BelowIn}
-use Rattle.lt_search_laws.specs.Equations.{under, reading, expression_at, equations_at, AllSolved}
+use Rattle.lt_search_laws.specs.Equations.{under, reading, structure_at, choices_at, AllSolved}
 use Rattle.lt_search_laws.specs.RelationTrees.{relation_tree, equation_trees, AllUnified}
-use Rattle.lt_search_laws.specs.Slots.{variable_of, top_equation, chosen_top, prefix_equations, SidesHold, IsSolvedBy, NoneUnifies, put_equality, IsTop, IsPosed, IsResolved}
+use Rattle.lt_search_laws.specs.Slots.{numbered_variable, top_equation, chosen_top, first_slot, whole_expression, prefix_equations, SidesHold, IsSolvedBy, NoneUnifies, put_equality, IsTop, IsPosed, IsResolved}
 use Rattle.lt_search_laws.proofs.Codes.{tree-under, IsClosed, expression-closed, under-closed, tree-injective}
 use Rattle.lt_search_laws.proofs.Parts.{tree_type, same_right, simplifiable, solution-typed, IsFitting, Comes, typed-expression}
-use Rattle.lt_search_laws.proofs.Systems.{IsNumbered, IsProper, solved-left, solved-right, solved-both, solved-corresponds, values_of, corresponds-solved}
-use Rattle.lt_search_laws.proofs.Fitting.{equality-fits, slots-proper, expression-comes, AllAlike, alike-both, equations-alike, alike-related, reading-assigned, assigned-sides, sides-below, reading-below, under-below, correspondence-fits, given_or, given_or-gives, given-fits}
+use Rattle.lt_search_laws.proofs.Systems.{IsNumbered, IsProper, solved-left, solved-right, solved-both, solved-corresponds, gives-left, gives-right, node_values, node_values-length, rule_values, corresponds-solved}
+use Rattle.lt_search_laws.proofs.Fitting.{equality-fits, slots-proper, expression-comes, AllAlike, alike-both, structure-alike, choices-alike, alike-related, fit-append, reading-assigned, assigned-sides, sides-below, reading-below, under-below, correspondence-fits, given_or, given_or-gives, given-fits}
 use Rattle.lt_search_laws.proofs.Over.{Over}
 
 -- A run of unification.
@@ -103,16 +103,22 @@ top-is G ok imp implied (suc (suc (suc i))) t h = absurd (cc (h))
 
 module _ (q : Question) (prefix : List ℕ) (K : ChosenStatement) (top : Option ℕ) (τ : ℕ → TypeTree) (posed : IsPosed q prefix K top τ) where
   abbrev pub whole : Relation
-  whole = expression_at q.registry q.signature (variable_of τ) 0 [] K
+  whole = whole_expression K
 
-  abbrev pub inner : List (Relation × Relation)
-  inner = equations_at q.registry q.signature (variable_of τ) 0 [] K
+  abbrev pub structure : List (Relation × Relation)
+  structure = structure_at numbered_variable 0 [] (statement_of K)
 
-  pub numbered-ok : IsNumbered (variable_of τ)
+  abbrev pub choices : List (Relation × Relation)
+  choices = choices_at q.registry q.signature numbered_variable 0 (first_slot K) K
+
+  abbrev pub tops : List (Relation × Relation)
+  tops = top_equation (chosen_top q.top top) whole
+
+  pub numbered-ok : IsNumbered numbered_variable
   numbered-ok s n = refl
 
   pub proper : IsProper q.registry [] K
-  proper = slots-proper q.registry q.signature q.rules posed.rules τ 0 [] [] K bool posed.typed_slots posed.candidates (λ x t h. absurd (cc (h)))
+  proper = slots-proper q.registry q.signature q.rules posed.rules τ 0 [] [] K bool posed.typed_nodes posed.candidates (λ x t h. absurd (cc (h)))
 
   pub top-of : (i : ℕ) (t : Relation) → slice_get (top_candidates q.top) i ≡ Some t → TopIs q.registry t
   top-of i t h = top-is q.registry posed.registry posed.implies q.top i t h
@@ -120,8 +126,8 @@ module _ (q : Question) (prefix : List ℕ) (K : ChosenStatement) (top : Option 
   pub record OverSolved (v : Over q K top) : Type 0 where
     pub by : ℕ → Relation
     pub fits : IsFitting q.registry τ by
-    pub reads : reading by 0 K ≡ v.assignment
-    pub solved : AllSolved by (prefix_equations q τ K top)
+    pub reads : reading by 0 (first_slot K) K ≡ v.assignment
+    pub solved : AllSolved by (prefix_equations q K top)
 
   pub top-solved : (s : ℕ → Relation) (e : Relation) (o : Option ℕ) → under s whole ≡ e → TopHolds q.top o e → AllSolved s (top_equation (chosen_top q.top o) whole)
   top-solved s e None h k = tt
@@ -130,21 +136,26 @@ module _ (q : Question) (prefix : List ℕ) (K : ChosenStatement) (top : Option 
   pub over-solved : (v : Over q K top) → OverSolved v
   over-solved v =
       let G = q.registry in
-      let vs = values_of G q.signature [] K v.assignment v.expression v.corresponds in
-      let f = correspondence-fits G posed.registry q.signature q.rules posed.rules τ 0 [] [] K bool posed.typed_slots posed.candidates tt v.assignment v.expression v.assigned v.corresponds in
-      let s = given_or (λ k. normal_equality G (τ k)) vs in
-      let r = corresponds-solved G q.signature s (variable_of τ) numbered-ok 0 [] [] K v.assignment v.expression refl proper v.assigned v.corresponds (given_or-gives (λ k. normal_equality G (τ k)) vs) in
+      let d : ℕ → Relation = (λ k. normal_equality G (τ k)) in
+      let vs = node_values G q.signature [] K v.assignment v.expression v.corresponds in
+      let ws = rule_values K v.assignment in
+      let l = node_values-length G q.signature [] K v.assignment v.expression v.corresponds in
+      let f = correspondence-fits G posed.registry q.signature q.rules posed.rules τ 0 (first_slot K) [] [] K bool posed.typed_nodes posed.typed_choices posed.candidates tt v.assignment v.expression v.assigned v.corresponds in
+      let s = given_or d (vs ++ ws) in
+      let g = given_or-gives d (vs ++ ws) in
+      let r = corresponds-solved G q.signature s numbered_variable numbered-ok 0 (first_slot K) [] [] K v.assignment v.expression refl proper v.assigned v.corresponds
+      (gives-left s 0 vs ws g) (gives-right s 0 (first_slot K) vs ws (omega arith) g) in
       record {
         by = s;
-        fits = given-fits G posed.registry τ vs f.each;
+        fits = given-fits G posed.registry τ (vs ++ ws) (fit-append G τ 0 (first_slot K) vs ws (omega arith) f.each f.picked);
         reads = r.reads;
-        solved = solved-both s (top_equation (chosen_top q.top top) whole) inner (top-solved s v.expression top r.whole v.top_holds) r.solved;
+        solved = solved-both s structure (choices ++ tops) r.structured (solved-both s choices tops r.solved (top-solved s v.expression top r.whole v.top_holds));
       }
 
-  pub none-over : NoneUnifies (equation_trees (prefix_equations q τ K top)) → Over q K top → ⊥
-  none-over none v = let s = over-solved v in none (λ n. relation_tree (s.by n)) (solved-unified s.by (prefix_equations q τ K top) s.solved)
+  pub none-over : NoneUnifies (equation_trees (prefix_equations q K top)) → Over q K top → ⊥
+  none-over none v = let s = over-solved v in none (λ n. relation_tree (s.by n)) (solved-unified s.by (prefix_equations q K top) s.solved)
 
-  module _ (bs : List (ℕ × Tree)) (r : ℕ → Relation) (is : IsResolved (equation_trees (prefix_equations q τ K top)) bs r) where
+  module _ (bs : List (ℕ × Tree)) (r : ℕ → Relation) (is : IsResolved (equation_trees (prefix_equations q K top)) bs r) where
     abbrev pub equalities : ℕ → Relation
     equalities k = normal_equality q.registry (τ k)
 
@@ -159,25 +170,28 @@ module _ (q : Question) (prefix : List ℕ) (K : ChosenStatement) (top : Option 
         at None h = tt
         at (Some t) h =
             let k = top-of i t h in
-            let e = expression-comes q.registry posed.registry q.signature q.rules posed.rules τ equalities (variable_of τ) (equality-fits q.registry posed.registry τ) numbered-ok 0 [] [] K bool posed.typed_slots posed.candidates tt in
+            let e = expression-comes q.registry q.signature τ equalities numbered_variable (equality-fits q.registry posed.registry τ) numbered-ok 0 [] [] (statement_of K) bool posed.typed_nodes tt in
             ((bool, e, subst (λ z. Comes q.registry z bool) (sym (k.fixed equalities)) k.comes), tt)
 
     pub least-fits : IsFitting q.registry τ least
     least-fits =
         let G = q.registry in
         let fit = equality-fits G posed.registry τ in
-        let alike = alike-both G equalities (top_equation (chosen_top q.top top) whole) inner (top-alike top)
-        (equations-alike G posed.registry q.signature q.rules posed.rules τ equalities (variable_of τ) fit numbered-ok 0 [] [] K bool posed.typed_slots posed.candidates tt) in
-        let respects = is.found_for.related (same_right G τ) (simplifiable G τ) (alike-related G τ equalities fit (prefix_equations q τ K top) alike) in
+        let alike = alike-both G equalities structure (choices ++ tops)
+        (structure-alike G q.signature τ equalities numbered_variable fit numbered-ok 0 [] [] (statement_of K) bool posed.typed_nodes tt)
+        (alike-both G equalities choices tops
+        (choices-alike G posed.registry q.signature q.rules posed.rules τ equalities numbered_variable fit numbered-ok 0 (first_slot K) [] K bool posed.typed_nodes posed.typed_choices posed.candidates)
+        (top-alike top)) in
+        let respects = is.found_for.related (same_right G τ) (simplifiable G τ) (alike-related G τ equalities fit (prefix_equations q K top) alike) in
         let comes : (n : ℕ) → Comes G (least n) (τ n) =
         (λ n. typed-expression G τ equalities fit (r n) (τ n) (ap (tree_type G τ) (is.resolved n) ∙ solution-typed G τ bs respects n)) in
         record { expressions = λ n. (comes n).expression; types = λ n. (comes n).right_is }
 
-    pub least-solved : AllSolved least (prefix_equations q τ K top)
+    pub least-solved : AllSolved least (prefix_equations q K top)
     least-solved =
         let e : ℕ → Tree = (λ n. relation_tree (equalities n)) in
-        unified-solved least (λ n. expression-closed q.registry (least n) (least-fits.expressions n)) (prefix_equations q τ K top)
-        (unified-after e (solution bs) (λ n. relation_tree (least n)) (λ n. tree-under equalities (r n) ∙ ap (apply e) (is.resolved n)) (equation_trees (prefix_equations q τ K top))
+        unified-solved least (λ n. expression-closed q.registry (least n) (least-fits.expressions n)) (prefix_equations q K top)
+        (unified-after e (solution bs) (λ n. relation_tree (least n)) (λ n. tree-under equalities (r n) ∙ ap (apply e) (is.resolved n)) (equation_trees (prefix_equations q K top))
         ((is.found_for.general (solution bs)).0 is.solves))
 
     pub top-there : (o : Option ℕ) → IsTop q.top o → AllSolved least (top_equation (chosen_top q.top o) whole) → TopHolds q.top o (under least whole)
@@ -186,28 +200,29 @@ module _ (q : Question) (prefix : List ℕ) (K : ChosenStatement) (top : Option 
         let k : AllSolved least (top_equation (Some w.0) whole) = subst (λ z. AllSolved least (top_equation z whole)) w.1 h in
         w.1 ∙ ap Some (sym (k.0 ∙ (top-of i w.0 w.1).fixed least))
 
-    abbrev pub over-least : SidesHold q.registry K (reading least 0 K) → Over q K top
+    abbrev pub over-least : SidesHold q.registry K (reading least 0 (first_slot K) K) → Over q K top
     over-least sides = record {
-      assignment = reading least 0 K;
+      assignment = reading least 0 (first_slot K) K;
       expression = under least whole;
-      assigned = reading-assigned q.registry q.signature τ least least-fits 0 [] K bool posed.typed_slots sides;
-      corresponds = solved-corresponds q.registry q.signature least (variable_of τ) numbered-ok 0 [] K proper (solved-right least (top_equation (chosen_top q.top top) whole) inner least-solved);
-      top_holds = top-there top posed.top_there (solved-left least (top_equation (chosen_top q.top top) whole) inner least-solved);
+      assigned = reading-assigned q.registry q.signature τ least least-fits 0 (first_slot K) [] K bool posed.typed_nodes posed.typed_choices sides;
+      corresponds = solved-corresponds q.registry q.signature least numbered_variable numbered-ok 0 (first_slot K) [] K proper (solved-left least structure (choices ++ tops) least-solved)
+          (solved-left least choices tops (solved-right least structure (choices ++ tops) least-solved));
+      top_holds = top-there top posed.top_there (solved-right least choices tops (solved-right least structure (choices ++ tops) least-solved));
     }
 
-    pub least-below : (v : Over q K top) → BelowIn q.registry K (reading least 0 K) v.assignment
+    pub least-below : (v : Over q K top) → BelowIn q.registry K (reading least 0 (first_slot K) K) v.assignment
     least-below v =
         let G = q.registry in
         let s = over-solved v in
         let t : ℕ → Tree = (λ n. relation_tree (s.by n)) in
-        let k : Solves t bs = (is.found_for.general t).1 (solved-unified s.by (prefix_equations q τ K top) s.solved) in
+        let k : Solves t bs = (is.found_for.general t).1 (solved-unified s.by (prefix_equations q K top) s.solved) in
         let closed : (n : ℕ) → IsClosed (s.by n) = (λ n. expression-closed G (s.by n) (s.fits.expressions n)) in
         let same : (n : ℕ) → s.by n ≡ under s.by (r n) = (λ n. tree-injective (s.by n) (under s.by (r n)) (closed n) (under-closed s.by closed (r n))
         (is.general_of t k (Var n) ∙ ap (apply t) (sym (is.resolved n)) ∙ sym (tree-under s.by (r n)))) in
         let one : (n : ℕ) → Below G (equalities n) (s.by n) = (λ n. equality-least G (equalities n) (s.by n)
         (right-equality G posed.registry (τ n) ∙ sym (s.fits.types n)) (equality-is G posed.registry (τ n))) in
         let each : (n : ℕ) → Below G (least n) (s.by n) = (λ n. subst (Below G (least n)) (sym (same n)) (under-below G equalities s.by one (r n))) in
-        subst (BelowIn G K (reading least 0 K)) s.reads (reading-below G least s.by each 0 K)
+        subst (BelowIn G K (reading least 0 (first_slot K) K)) s.reads (reading-below G least s.by each 0 (first_slot K) K)
 
-    pub over-sides : Over q K top → SidesHold q.registry K (reading least 0 K)
-    over-sides v = sides-below q.registry K (reading least 0 K) v.assignment (least-below v) (assigned-sides q.registry q.signature K v.assignment v.assigned)
+    pub over-sides : Over q K top → SidesHold q.registry K (reading least 0 (first_slot K) K)
+    over-sides v = sides-below q.registry K (reading least 0 (first_slot K) K) v.assignment (least-below v) (assigned-sides q.registry q.signature K v.assignment v.assigned)

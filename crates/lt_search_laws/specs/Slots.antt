@@ -1,6 +1,7 @@
 -- The types of numbered variables, the equations of a prefix, and its side conditions.
 use Rattle.std.specs.Prelude.{◌≡◌, ℕ, suc, ◌+◌, List, [], ◌∷◌, ◌++◌, Option, Some, None, slice_get, Bool, ◌↔◌}
 use Rattle.lt_definitions.specs.Types.{Chars, found, TypeTree, type_variable, bool, fun, TypeMap, type_instance}
+use Rattle.lt_definitions.specs.Terms.{TermTree, free_variable, bound_name, constant, application, abstraction}
 use Rattle.lt_definitions.specs.Typing.{Signature, HasType}
 use Rattle.lt_transport_definitions.specs.Relations.{Relation, relation_variable, relation_row, RelationVariable, Registry}
 use Rattle.lt_transport_definitions.specs.Expressions.{right, normal_equality, IsExpression, implication}
@@ -11,7 +12,7 @@ use Rattle.lt_transport_definitions.specs.Search.{Top, Question, top_candidates,
 use Rattle.lt_unify.specs.Tree.{Tree, apply}
 use Rattle.lt_unify.specs.Solutions.{solution, Solves, AllRelated, Respects, IsSimplifiable}
 use Rattle.lt_transport_laws.specs.Statements.{IsRegistry, AreTyped}
-use Rattle.lt_search_laws.specs.Equations.{under, slots, reading, expression_at, equations_at}
+use Rattle.lt_search_laws.specs.Equations.{under, size, rule_slots, reading, expression_at, structure_at, choices_at}
 use Rattle.lt_search_laws.specs.RelationTrees.{relation_tree, equation_trees, AllUnified}
 
 -- the variables from a number on have the types of a rule's variables at a match
@@ -19,19 +20,29 @@ abbrev pub SlotsOf : (ℕ → TypeTree) → ℕ → TypeMap → List RelationVar
 SlotsOf τ n m [] = Unit {0}
 SlotsOf τ n m (x ∷ xs) = (τ n ≡ type_instance m (type_variable x.right_name)) × SlotsOf τ (suc n) m xs
 
--- A statement of a type under names with their types, whose numbered variables from a number on have the types of what they stand for.
-abbrev pub HasSlots : Signature → (ℕ → TypeTree) → ℕ → List (Chars × TypeTree) → ChosenStatement → TypeTree → Type 0
-HasSlots sig τ n env (chosen_name x) ty = found x env ≡ Some ty
-HasSlots sig τ n env (chosen_rule c ts i rule) ty = (type_at sig c ts ≡ ty) × SlotsOf τ n (match_of rule ts) rule.variables
-HasSlots sig τ n env (chosen_equality c ts) ty = type_at sig c ts ≡ ty
-HasSlots sig τ n env (not_chosen c ts) ty = (type_at sig c ts ≡ ty) × (τ n ≡ ty)
-HasSlots sig τ n env (chosen_application f a) ty =
-    (from : TypeTree) × (τ n ≡ ty) × HasSlots sig τ (suc n) env f (fun from ty) × HasSlots sig τ (suc n + slots f) env a from
-HasSlots sig τ n env (chosen_abstraction x u b) ty = (to : TypeTree) × (fun u to ≡ ty) × (τ n ≡ u) × HasSlots sig τ (suc n) ((x, u) ∷ env) b to
+-- A statement of a type under names with their types: the variables of its nodes, numbered from a number on, have the
+-- types of what they stand for, which is the bound name's for an abstraction.
+abbrev pub HasNodes : Signature → (ℕ → TypeTree) → ℕ → List (Chars × TypeTree) → TermTree → TypeTree → Type 0
+HasNodes sig τ k env (free_variable x u) ty = ⊥
+HasNodes sig τ k env (bound_name x) ty = (found x env ≡ Some ty) × (τ k ≡ ty)
+HasNodes sig τ k env (constant c ts) ty = (type_at sig c ts ≡ ty) × (τ k ≡ ty)
+HasNodes sig τ k env (application f a) ty =
+    (from : TypeTree) × (τ (k + size f + size a) ≡ ty) × HasNodes sig τ k env f (fun from ty) × HasNodes sig τ (k + size f) env a from
+HasNodes sig τ k env (abstraction x u b) ty =
+    (to : TypeTree) × (fun u to ≡ ty) × (τ (k + size b) ≡ u) × HasNodes sig τ k ((x, u) ∷ env) b to
 
--- the numbered variables with these types
-abbrev pub variable_of : (ℕ → TypeTree) → ℕ → Relation
-variable_of τ n = relation_variable n (τ n)
+-- The variables of the chosen rules, from a number on, have their types.
+abbrev pub HasChoices : (ℕ → TypeTree) → ℕ → ChosenStatement → Type 0
+HasChoices τ m (chosen_name x) = Unit {0}
+HasChoices τ m (chosen_rule c ts i rule) = SlotsOf τ m (match_of rule ts) rule.variables
+HasChoices τ m (chosen_equality c ts) = Unit {0}
+HasChoices τ m (not_chosen c ts) = Unit {0}
+HasChoices τ m (chosen_application f a) = HasChoices τ m a × HasChoices τ (m + rule_slots a) f
+HasChoices τ m (chosen_abstraction x u b) = HasChoices τ m b
+
+-- the variable with a number: what type it carries counts for nothing
+abbrev pub numbered_variable : ℕ → Relation
+numbered_variable n = relation_variable n bool
 
 -- the equation of the top, if it is chosen
 abbrev pub top_equation : Option Relation → Relation → List (Relation × Relation)
@@ -42,10 +53,18 @@ abbrev pub chosen_top : Top → Option ℕ → Option Relation
 chosen_top top None = None
 chosen_top top (Some i) = slice_get (top_candidates top) i
 
--- the equations of a prefix: that of the top, and those of its chosen candidates
-abbrev pub prefix_equations : Question → (ℕ → TypeTree) → ChosenStatement → Option ℕ → List (Relation × Relation)
-prefix_equations q τ K top = top_equation (chosen_top q.top top) (expression_at q.registry q.signature (variable_of τ) 0 [] K)
-    ++ equations_at q.registry q.signature (variable_of τ) 0 [] K
+-- the number of the first rule's first variable
+abbrev pub first_slot : ChosenStatement → ℕ
+first_slot K = size (statement_of K)
+
+-- the expression of the whole statement
+abbrev pub whole_expression : ChosenStatement → Relation
+whole_expression K = expression_at numbered_variable 0 [] (statement_of K)
+
+-- the equations of a prefix: those of the applications, those of the chosen candidates, and that of the top
+abbrev pub prefix_equations : Question → ChosenStatement → Option ℕ → List (Relation × Relation)
+prefix_equations q K top = structure_at numbered_variable 0 [] (statement_of K)
+    ++ (choices_at q.registry q.signature numbered_variable 0 (first_slot K) K ++ top_equation (chosen_top q.top top) (whole_expression K))
 
 -- the side conditions of the chosen rules
 abbrev pub SidesHold : Registry → (K : ChosenStatement) → Assignment K → Type 0
@@ -83,7 +102,8 @@ pub record IsPosed (q : Question) (prefix : List ℕ) (K : ChosenStatement) (top
   pub candidates : AreCandidates q.rules K
   pub top_there : IsTop q.top top
   pub filled : AreFilled (numbers_of K ++ top ∷ []) prefix
-  pub typed_slots : HasSlots q.signature τ 0 [] K bool
+  pub typed_nodes : HasNodes q.signature τ 0 [] (statement_of K) bool
+  pub typed_choices : HasChoices τ (first_slot K) K
 
 -- The expressions are those that the bindings found for the equations resolve the variables to.
 pub record IsResolved (es : List (Tree × Tree)) (bs : List (ℕ × Tree)) (r : ℕ → Relation) : Type 0 where
@@ -95,22 +115,23 @@ pub record IsResolved (es : List (Tree × Tree)) (bs : List (ℕ × Tree)) (r : 
 -- Where no substitution solves the equations of a prefix, it has no solution.
 abbrev pub NoneUnifiesNone : Type 0
 NoneUnifiesNone = (q : Question) (prefix : List ℕ) (K : ChosenStatement) (top : Option ℕ) (τ : ℕ → TypeTree) → IsPosed q prefix K top τ
-    → NoneUnifies (equation_trees (prefix_equations q τ K top)) → Solution q prefix → ⊥
+    → NoneUnifies (equation_trees (prefix_equations q K top)) → Solution q prefix → ⊥
 
 -- Where bindings solve them, a prefix has a solution just where the side conditions hold at what is left by putting equality.
 abbrev pub LiveWhereSidesHold : Type 0
 LiveWhereSidesHold = (q : Question) (prefix : List ℕ) (K : ChosenStatement) (top : Option ℕ) (τ : ℕ → TypeTree) → IsPosed q prefix K top τ
-    → (bs : List (ℕ × Tree)) (r : ℕ → Relation) → IsResolved (equation_trees (prefix_equations q τ K top)) bs r
-    → Solution q prefix ↔ SidesHold q.registry K (reading (put_equality q.registry τ r) 0 K)
+    → (bs : List (ℕ × Tree)) (r : ℕ → Relation) → IsResolved (equation_trees (prefix_equations q K top)) bs r
+    → Solution q prefix ↔ SidesHold q.registry K (reading (put_equality q.registry τ r) 0 (first_slot K) K)
 
 -- And then the solution that is left by putting equality is the least.
 abbrev pub LeastByEquality : Type 0
 LeastByEquality = (q : Question) (prefix : List ℕ) (K : ChosenStatement) (top : Option ℕ) (τ : ℕ → TypeTree) → IsPosed q prefix K top τ
-    → (bs : List (ℕ × Tree)) (r : ℕ → Relation) → IsResolved (equation_trees (prefix_equations q τ K top)) bs r
-    → SidesHold q.registry K (reading (put_equality q.registry τ r) 0 K)
+    → (bs : List (ℕ × Tree)) (r : ℕ → Relation) → IsResolved (equation_trees (prefix_equations q K top)) bs r
+    → SidesHold q.registry K (reading (put_equality q.registry τ r) 0 (first_slot K) K)
     → (s : Solution q prefix) × IsLeast s × (s.chosen ≡ K)
-    × (relations_of s ≡ rule_relations K (reading (put_equality q.registry τ r) 0 K) ++ binder_relations K (reading (put_equality q.registry τ r) 0 K))
+    × (relations_of s ≡ rule_relations K (reading (put_equality q.registry τ r) 0 (first_slot K) K) ++ binder_relations K (reading (put_equality q.registry τ r) 0 (first_slot K) K))
 
 -- A typed statement has types for its numbered variables.
 abbrev pub SlotsAreThere : Type 0
-SlotsAreThere = (sig : Signature) (K : ChosenStatement) (ty : TypeTree) → HasType sig [] (statement_of K) ty → (τ : ℕ → TypeTree) × HasSlots sig τ 0 [] K ty
+SlotsAreThere = (sig : Signature) (K : ChosenStatement) (ty : TypeTree) → HasType sig [] (statement_of K) ty
+    → (τ : ℕ → TypeTree) × HasNodes sig τ 0 [] (statement_of K) ty × HasChoices τ (first_slot K) K

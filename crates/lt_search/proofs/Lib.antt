@@ -1,0 +1,5 @@
+-- Lemmas of expressions, of equations and of the walk.
+pub mod Layers
+pub mod Runs
+pub mod Resolved
+pub mod WalkLemmas

@@ -1,0 +1,9 @@
+use Rattle.std.proofs.Common.{◌≡◌, ◌<◌, length, arith, subst, sym, ◌∙◌}
+use Rattle.std.proofs.lemmas.Grind.{common_steps}
+use Rattle.lt_search.proofs.Layers.{con-headed, con-arity, con-child, rebuilt, same-equalities, same-constructors, other-heads, heads-other}
+use Rattle.lt_search.proofs.expression.ExpressionFirstOrder.arity.Goals as goal
+
+pub returns-in-Constructed : goal.returns-in-Constructed
+returns-in-Constructed c =
+    let e : c.len.result ≡ length c.in-Constructed.children.items = grind (arith, common_steps) in
+    e ∙ sym (con-arity c.args.self.now c.in-Constructed.field-0 c.in-Constructed.field-1 c.in-Constructed.children c.in-Constructed.is)
