@@ -1,0 +1,12 @@
+pub mod RelatedLemmas
+pub mod RelatorLemmas
+pub mod OpenedLemmas
+pub mod Assumptions
+pub mod PlanLemmas
+pub mod OutcomeSteps
+pub mod RelatedForms
+pub mod ApplyingLemmas
+pub mod ExpandingLemmas
+pub mod AbstractingLemmas
+pub mod ClosingLemmas
+pub mod WalkLemmas
