@@ -1,0 +1,3 @@
+pub mod EqualityLemmas
+pub mod SideLemmas
+pub mod NormalLemmas
