@@ -1,2 +1,3 @@
 pub mod LayoutLemmas
 pub mod Rows
+pub mod PartLemmas

@@ -1,6 +1,7 @@
 //! Relation expressions as data.
 #![tactic(auto)]
 
+mod parts;
 mod rel;
 mod rel_builder;
 
