@@ -1,5 +1,5 @@
 -- Where the parts of an expression begin.
-use Rattle.std.proofs.Common.{◌≡◌, ◌⊎◌, inl, inr, ℕ, zero, suc, ◌+◌, ◌-◌, ◌<◌, ◌≤◌, List, [], ◌∷◌, ◌++◌, length, take, drop, get_or, refl, sym, ◌∙◌, ap, subst, true, arith, length-append}
+use Rattle.std.proofs.Common.{◌≡◌, ◌⊎◌, inl, inr, ℕ, zero, suc, ◌+◌, ◌-◌, ◌<◌, ◌≤◌, List, [], ◌∷◌, ◌++◌, length, take, drop, get_or, refl, sym, ◌∙◌, ap, subst, true, arith, append-nil, length-append}
 use Rattle.std.proofs.lemmas.Bool.{cases_lt}
 use Rattle.std.proofs.lemmas.List.{length-take-le, get_or_default}
 use Rattle.lt_expressions.specs.declared.rel.RelNode.{RelNode}
@@ -10,7 +10,7 @@ use Rattle.lt_definitions.proofs.SameNames.{both-true, true-both, true-false, ty
 use Rattle.lt_transport_definitions.specs.Relations.{Relation, relation_variable, equality, constructed, relation_row}
 use Rattle.lt_expressions.specs.Layout.{arguments, grow, HasRoom, forest, relation_nodes}
 use Rattle.lt_expressions.specs.Parts.{BeginsAt}
-use Rattle.lt_expressions.proofs.LayoutLemmas.{step, IsStep}
+use Rattle.lt_expressions.proofs.LayoutLemmas.{step, grow-under, IsStep}
 
 snoc-length : {A : Type 0} (xs : List A) (x : A) → length (xs ++ x ∷ []) ≡ suc (length xs)
 snoc-length xs x = length-append xs (x ∷ []) ∙ omega arith
@@ -134,3 +134,40 @@ pub room-part : (under before : List Relation) (n : RelNode) → HasRoom (under 
 room-part under before (Var m t) r h = tt
 room-part under before (Eq t) r h = tt
 room-part under before (Con c ts ids) r h = omega (arith, length-grow (under ++ before) (Con c ts ids) r, length-append under before, h)
+
+-- ---- the one expression that lies between a place and the last one's beginning
+
+one-thing : (b : List Relation) → length b ≡ 1 → (e : Relation) × (b ≡ e ∷ [])
+one-thing [] h = absurd (omega (arith, h))
+one-thing (e ∷ []) h = (e, refl)
+one-thing (e ∷ f ∷ b) h = absurd (omega (arith, h))
+
+-- what the nodes behind the beginning make stands behind what there was
+begun : (rel : Relation) (end start : ℕ) → end ≤ length (relation_nodes 0 rel) → BeginsAt (relation_nodes 0 rel) end start
+    → (k : ℕ) → start + k ≤ end → (b : List Relation) × (forest [] (take (start + k) (relation_nodes 0 rel)) ≡ forest [] (take start (relation_nodes 0 rel)) ++ b)
+begun rel end start within h zero up =
+    let none : start + 0 ≡ start = omega arith in
+    ([], ap (λ i. forest [] (take i (relation_nodes 0 rel))) none ∙ sym (append-nil (forest [] (take start (relation_nodes 0 rel)))))
+begun rel end start within h (suc k) up =
+    let nodes : List RelNode = relation_nodes 0 rel in
+    let front : List Relation = forest [] (take start nodes) in
+    let lt : start + k < length nodes = omega (arith, up, within) in
+    let n : RelNode = get_or nodes (start + k) (Eq (type_variable [])) in
+    let s : IsStep nodes (start + k) n = forest-room rel (start + k) n lt (get_or_default nodes (start + k) (Eq (type_variable [])) n lt) in
+    let more : (start + k) + 1 ≡ start + suc k = omega arith in
+    let earlier = begun rel end start within h k (omega (arith, up)) in
+    let next : forest [] (take (start + suc k) nodes) ≡ grow (front ++ earlier.0) n =
+    ap (λ i. forest [] (take i nodes)) (sym more) ∙ s.next ∙ ap (λ (b : List Relation). grow b n) earlier.1 in
+    let room : HasRoom earlier.0 n =
+    room-part front earlier.0 n (subst (λ (b : List Relation). HasRoom b n) earlier.1 s.room)
+    (omega (arith, h.inside (start + suc k) (omega arith) up, ap length next)) in
+    (grow earlier.0 n, next ∙ grow-under front earlier.0 n room)
+
+pub begins-one : (rel : Relation) (end start : ℕ) → end ≤ length (relation_nodes 0 rel) → BeginsAt (relation_nodes 0 rel) end start
+    → (e : Relation) × (forest [] (take end (relation_nodes 0 rel)) ≡ forest [] (take start (relation_nodes 0 rel)) ++ e ∷ [])
+begins-one rel end start within h =
+    let whole : start + (end - start) ≡ end = omega (arith, h.before) in
+    let last = begun rel end start within h (end - start) (omega (arith, whole)) in
+    let split : forest [] (take end (relation_nodes 0 rel)) ≡ forest [] (take start (relation_nodes 0 rel)) ++ last.0 = ap (λ i. forest [] (take i (relation_nodes 0 rel))) (sym whole) ∙ last.1 in
+    let one = one-thing last.0 (omega (arith, h.one, ap length split, length-append (forest [] (take start (relation_nodes 0 rel))) last.0)) in
+    (one.0, split ∙ ap (λ b. forest [] (take start (relation_nodes 0 rel)) ++ b) one.1)
