@@ -5,3 +5,5 @@ pub mod Places
 pub mod Registries
 pub mod Registering
 pub mod Holdings
+pub mod Maps
+pub mod Pieces

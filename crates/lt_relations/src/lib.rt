@@ -3,11 +3,15 @@
 
 mod entries;
 mod holdings;
+mod normal_forms;
+mod pieces;
 mod property_rules;
 mod registering;
 mod rel_fault;
 mod relations;
+mod sides_of;
 mod table;
+mod type_parts;
 
 pub use entries::{
     Correspondence, DomainRule, Param, PropertyRule, RelationVariable, Relator, Sides,
