@@ -138,3 +138,15 @@ room-under under before (Con c us ids) r = simp length-append (omega arith)
 -- expressions are compared by their nodes
 pub same-nodes : (s t : Relation) → relation_nodes 0 s ≡ relation_nodes 0 t → s ≡ t
 same-nodes s t e = sym (relation_of_nodes-relation_nodes 0 s) ∙ ap relation_of_nodes e ∙ relation_of_nodes-relation_nodes 0 t
+
+-- the same of nodes that lie from any place on
+pub step-from : (from : ℕ) (nodes : List RelNode) (t : Relation) (i : ℕ) (n : RelNode) → nodes ≡ relation_nodes from t → i < length nodes → n ≡ get_or nodes i n → IsStep nodes i n
+step-from from nodes t i n h lt at = record {
+  room = subst (HasRoom (forest [] (take i nodes))) (sym at) (room-at [] nodes i n (subst (Rooms []) (sym h) (rooms-whole from t)) lt);
+  next = forest-more nodes i n lt ∙ ap (grow (forest [] (take i nodes))) (sym at);
+}
+
+pub whole-from : (from : ℕ) (nodes : List RelNode) (t : Relation) (i : ℕ) → nodes ≡ relation_nodes from t → i ≤ length nodes → length nodes ≤ i → forest [] (take i nodes) ≡ t ∷ []
+whole-from from nodes t i h up down =
+    let e : i ≡ length nodes = omega arith in
+    ap (forest []) (ap (λ k. take k nodes) e ∙ take-length nodes ∙ h) ∙ forest-whole from t

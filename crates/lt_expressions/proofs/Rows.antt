@@ -1,12 +1,12 @@
 -- Expressions that lie one after another.
-use Rattle.std.proofs.Common.{◌≡◌, ℕ, ◌+◌, ◌-◌, ◌≤◌, List, [], ◌∷◌, ◌++◌, length, take, drop, sym, ◌∙◌, ap, subst, arith, append_assoc, append-nil}
+use Rattle.std.proofs.Common.{◌≡◌, ℕ, ◌+◌, ◌-◌, ◌≤◌, ◌<◌, List, [], ◌∷◌, ◌++◌, length, take, drop, sym, ◌∙◌, ap, subst, arith, append_assoc, append-nil, length-append, refl}
 use Rattle.std.proofs.lemmas.List.{take-append-drop, length-take-le}
 use Rattle.std.proofs.Math.Seq.{take-append_seam, drop-append_seam}
 use Rattle.lt_expressions.specs.declared.rel.RelNode.{RelNode}
 use Rattle.lt_expressions.specs.declared.rel.RelNode.TheVariants.{Con}
 use Rattle.lt_definitions.specs.Types.{Chars, TypeTree}
 use Rattle.lt_transport_definitions.specs.Relations.{Relation, constructed, relation_row}
-use Rattle.lt_expressions.specs.Layout.{below, sizes, relation_size, roots, relation_nodes, row_nodes, forest, IsRow}
+use Rattle.lt_expressions.specs.Layout.{behind, below, sizes, relation_size, roots, relation_nodes, row_nodes, forest, IsRow}
 use Rattle.lt_expressions.proofs.LayoutLemmas.{list-row, length-roots, length-row_nodes, forest-row_nodes}
 
 sizes-append : (f g : List Relation) → sizes (relation_row (f ++ g)) ≡ sizes (relation_row f) + sizes (relation_row g)
@@ -83,3 +83,57 @@ row-con nodes more_nodes places more_places ids kept made name us n k h fits e k
   where
     at : length places - k ≡ length (take (length made - k) made)
     at = ap (λ m. m - k) (length-row nodes places made h) ∙ sym (length-take-le (length made - k) made (omega arith))
+
+-- ---- the last expression of a row
+
+-- what lies before the last one ends where that one begins
+pub behind-roots : (from : ℕ) (f : List Relation) (r : Relation) → behind (roots from (relation_row (r ∷ f))) ≡ from + sizes (relation_row (r ∷ f))
+behind-roots from [] r = omega arith
+behind-roots from (s ∷ f) r = behind-roots (from + relation_size r) f s ∙ omega arith
+
+pub behind-row : (f : List Relation) → behind (roots 0 (relation_row f)) ≡ sizes (relation_row f)
+behind-row [] = refl
+behind-row (r ∷ f) = behind-roots 0 f r
+
+pub record HasLast (nodes : List RelNode) (places : List ℕ) (made : List Relation) : Type 0 where
+  pub front : List Relation
+  pub last : Relation
+  pub all : made ≡ front ++ last ∷ []
+  pub row : IsRow (take (behind (take (length places - 1) places)) nodes) (take (length places - 1) places) front
+  pub fits : behind (take (length places - 1) places) ≤ length nodes
+  pub tail : drop (behind (take (length places - 1) places)) nodes ≡ relation_nodes (sizes (relation_row front)) last
+
+ends : (r : Relation) (f : List Relation) → (front : List Relation) × (last : Relation) × (r ∷ f ≡ front ++ last ∷ [])
+ends r [] = ([], (r, refl))
+ends r (s ∷ f) = let k = ends s f in (r ∷ k.0, (k.1, ap (λ g. r ∷ g) k.2))
+
+parted : (nodes : List RelNode) (places : List ℕ) (front : List Relation) (last : Relation) → IsRow nodes places (front ++ last ∷ []) → HasLast nodes places (front ++ last ∷ [])
+parted nodes places front last h = record {
+  front = front;
+  last = last;
+  all = refl;
+  row = record { laid = ap (λ k. take k nodes) place ∙ (λ i. take (sym count i) (split i)) ∙ take-append_seam (row_nodes 0 (relation_row front)) (relation_nodes (sizes (relation_row front)) last); at = kept };
+  fits = omega (arith, place, ap length split, length-append (row_nodes 0 (relation_row front)) (relation_nodes (sizes (relation_row front)) last), count);
+  tail = ap (λ k. drop k nodes) place ∙ (λ i. drop (sym count i) (split i)) ∙ drop-append_seam (row_nodes 0 (relation_row front)) (relation_nodes (sizes (relation_row front)) last);
+}
+  where
+    count : length (row_nodes 0 (relation_row front)) ≡ sizes (relation_row front)
+    count = length-row_nodes 0 (relation_row front)
+
+    split : nodes ≡ row_nodes 0 (relation_row front) ++ relation_nodes (sizes (relation_row front)) last
+    split = h.laid ∙ all-append 0 front (last ∷ []) ∙ ap (λ ns. row_nodes 0 (relation_row front) ++ ns) (append-nil (relation_nodes (sizes (relation_row front)) last))
+
+    less : length places - 1 ≡ length (roots 0 (relation_row front))
+    less = omega (arith, length-row nodes places (front ++ last ∷ []) h, length-append front (last ∷ []), length-roots 0 (relation_row front), ap length (list-row front))
+
+    kept : take (length places - 1) places ≡ roots 0 (relation_row front)
+    kept = (λ i. take (less i) ((h.at ∙ roots-append 0 front (last ∷ [])) i)) ∙ take-append_seam (roots 0 (relation_row front)) (roots (0 + sizes (relation_row front)) (relation_row (last ∷ [])))
+
+    place : behind (take (length places - 1) places) ≡ sizes (relation_row front)
+    place = ap behind kept ∙ behind-row front
+
+pub has-last : (nodes : List RelNode) (places : List ℕ) (made : List Relation) → IsRow nodes places made → 0 < length made → HasLast nodes places made
+has-last nodes places [] h some = absurd (omega (arith, some))
+has-last nodes places (r ∷ f) h some =
+    let k = ends r f in
+    subst (λ (g : List Relation). HasLast nodes places g) (sym k.2) (parted nodes places k.0 k.1 (subst (λ (g : List Relation). IsRow nodes places g) k.2 h))

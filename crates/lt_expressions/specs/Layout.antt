@@ -72,3 +72,9 @@ relation_of_nodes nodes = first (forest [] nodes)
 pub record IsRow (nodes : List RelNode) (places : List ℕ) (made : List Relation) : Type 0 where
   pub laid : nodes ≡ row_nodes 0 (relation_row made)
   pub at : places ≡ roots 0 (relation_row made)
+
+-- the place behind the nodes of expressions that lie one after another, by their roots
+abbrev pub behind : List ℕ → ℕ
+behind [] = 0
+behind (r ∷ []) = r + 1
+behind (r ∷ s ∷ rs) = behind (s ∷ rs)

@@ -1,7 +1,7 @@
 //! Relation expressions that are made one after another, from their nodes in post-order.
-ghost use Rattle.std.specs.Prelude.{◌≡◌, ◌≤◌, ◌-◌, [], ◌∷◌, ◌++◌, length, take, drop, IfOk};
-ghost use Rattle.lt_transport_definitions.specs.Relations.{relation_variable, equality, constructed, relation_row};
-ghost use Rattle.lt_expressions.specs.Layout.{HasRoom, grow};
+ghost use Rattle.std.specs.Prelude.{◌≡◌, ℕ, ◌<◌, ◌≤◌, ◌-◌, ◌^◌, [], ◌∷◌, ◌++◌, length, take, drop, IfOk};
+ghost use Rattle.lt_transport_definitions.specs.Relations.{Relation, relation_variable, equality, constructed, relation_row};
+ghost use Rattle.lt_expressions.specs.Layout.{HasRoom, grow, relation_nodes, behind};
 
 use crate::rel::{Rel, RelNode};
 use lt_hol::{List, Memory, Name, TryCopy, Ty, Tys};
@@ -127,6 +127,21 @@ impl RelBuilder {
         Ok(builder)
     }
 
+    /// The expressions before the last one, and the last one. It takes time linear in the last one.
+    pub fn split_last(self, alloc: Global) -> Result<(RelBuilder, Rel), Memory>
+        requires { 0 < length self }
+        ensures { IfOk result (λ x. self ≡ x.0 ++ x.1 ∷ []) }
+    {
+        let RelBuilder {
+            mut nodes,
+            mut roots,
+        } = self;
+        roots.truncate(roots.len() - 1);
+        let last = nodes.split_off(behind(roots.as_slice()))?;
+        let last = remade(alloc, last.as_slice())?;
+        Ok((RelBuilder { nodes, roots }, last))
+    }
+
     /// The one expression that was made.
     pub fn finish(self, alloc: Global) -> Result<Rel, Memory>
         requires { length self ≡ 1 }
@@ -135,4 +150,28 @@ impl RelBuilder {
         let RelBuilder { nodes, roots: _ } = self;
         Rel::from_nodes(alloc, nodes)
     }
+}
+
+/// The place behind the nodes of expressions with these roots.
+fn behind(roots: &[usize]) -> usize
+    requires { behind roots.now < 2 ^ 64 }
+    ensures { result ≡ behind roots.now }
+{
+    match roots.last() {
+        Some(root) => *root + 1,
+        None => 0,
+    }
+}
+
+/// The expression of nodes that lay from any place on.
+fn remade(alloc: Global, nodes: &[RelNode]) -> Result<Rel, Memory>
+    requires { (from : ℕ) × (r : Relation) × (nodes.now ≡ relation_nodes from r) }
+    ensures { IfOk result (λ made. (from : ℕ) (r : Relation) → nodes.now ≡ relation_nodes from r
+        → made ≡ r) }
+{
+    let mut builder = RelBuilder::new(alloc);
+    for node in nodes {
+        builder = builder.node(alloc, node)?;
+    }
+    builder.finish(alloc)
 }

@@ -7,3 +7,4 @@ pub mod Registering
 pub mod Holdings
 pub mod Maps
 pub mod Pieces
+pub mod BelowSteps

@@ -56,13 +56,6 @@ pub record IsTypeStep (type_of : Relation → TypeTree) (rel : Relation) (end : 
   pub made : with_type_piece (map type_of (forest [] (take next (relation_nodes 0 rel)))) piece
       ≡ map type_of (forest [] (take end (relation_nodes 0 rel)))
 
-pub record IsRelStep (rel_of : Relation → Relation) (rel : Relation) (end : ℕ) (piece : RelPiece)
-    (next : ℕ) : Type 0 where
-  pub before : next < end
-  pub fits : RelFits (map rel_of (forest [] (take next (relation_nodes 0 rel)))) piece
-  pub made : with_rel_piece (map rel_of (forest [] (take next (relation_nodes 0 rel)))) piece
-      ≡ map rel_of (forest [] (take end (relation_nodes 0 rel)))
-
 pub record IsEqualityStep (rel_of : TypeTree → Relation) (ty : TypeTree) (end : ℕ)
     (piece : RelPiece) (next : ℕ) : Type 0 where
   pub before : next < end

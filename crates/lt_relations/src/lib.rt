@@ -1,6 +1,7 @@
 //! What is registered of relations, and what follows of it.
 #![tactic(auto)]
 
+mod below;
 mod entries;
 mod holdings;
 mod normal_forms;

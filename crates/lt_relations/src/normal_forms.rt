@@ -1,18 +1,18 @@
 //! Normal forms of equalities and of expressions.
-ghost use Rattle.std.specs.Prelude.{◌≡◌, ◌<◌, ◌≤◌, ◌-◌, [], map, slice_get, Some, IfOk};
+ghost use Rattle.std.specs.Prelude.{◌≡◌, ◌<◌, ◌≤◌, List, [], ◌∷◌, ◌++◌, length, map, IfOk};
 ghost use Rattle.std.specs.Option.{option_copied};
+ghost use Rattle.lt_definitions.specs.Types.{TypeTree};
 ghost use Rattle.lt_types.specs.Layout.{type_size};
-ghost use Rattle.lt_expressions.specs.Layout.{relation_size, relation_nodes};
-ghost use Rattle.lt_expressions.specs.declared.rel.RelNode.TheVariants.{Con};
-ghost use Rattle.lt_transport_definitions.specs.Relations.{relation_variable, equality, constructed};
-ghost use Rattle.lt_transport_definitions.specs.Expressions.{normal_equality, normal_equalities, arguments_of, normal};
-ghost use Rattle.lt_relations.specs.Pieces.{IsRelStep, IsEqualityStep, node_relator};
+ghost use Rattle.lt_expressions.specs.Layout.{HasRoom, grow};
+ghost use Rattle.lt_transport_definitions.specs.Relations.{Relation, Relations, equality, constructed, form_for};
+ghost use Rattle.lt_transport_definitions.specs.Expressions.{normal_equality, normal_equalities, arguments_of, right, normal, normal_constructed};
+ghost use Rattle.lt_relations.specs.Pieces.{IsEqualityStep, node_relator};
 
 use crate::pieces::{RelPiece, rel_made};
 use crate::relations::Relations;
 use crate::type_parts::{arguments, part, start_of};
 use lt_expressions::{Rel, RelBuilder, RelNode};
-use lt_hol::{Ids, List, Memory, Name, TryCopy, Ty, TyNode, Tys};
+use lt_hol::{List, Memory, Name, TryCopy, Ty, TyNode};
 use std::alloc::Global;
 
 impl Relations {
@@ -78,68 +78,74 @@ impl Relations {
     pub fn normal(&self, alloc: Global, rel: &Rel) -> Result<Rel, Memory>
         ensures { IfOk result (λ r. r ≡ normal self.now rel.now) }
     {
-        let mut pieces = Vec::new(alloc);
-        let mut end = rel.len();
-        while 0 < end {
-            let (piece, next) = self.normal_piece(alloc, rel, end)?;
-            pieces.push(piece)?;
-            end = next;
+        let mut builder = RelBuilder::new(alloc);
+        for node in rel.nodes() {
+            builder = self.put_normal(builder, alloc, node)?;
         }
-        rel_made(alloc, pieces)
+        builder.finish(alloc)
     }
 
-    /// The last piece of the normal forms of the expressions before a place, and the place before
-    /// which the others are.
-    fn normal_piece(
+    /// Puts the normal form of the expression that a node makes in the place of those of its
+    /// arguments.
+    fn put_normal(
         &self,
+        builder: RelBuilder,
         alloc: Global,
-        rel: &Rel,
-        end: usize,
-    ) -> Result<(RelPiece, usize), Memory>
-        requires above { 0 < end }
-        requires within { end ≤ relation_size rel.now }
-        ensures { IfOk result (λ x. IsRelStep (normal self.now) rel.now end x.0 x.1) }
+        node: &RelNode,
+    ) -> Result<RelBuilder, Memory>
+        requires { HasRoom builder node.now }
+        ensures { IfOk result (λ b. (before : List Relation)
+            → builder ≡ map (normal self.now) before
+            → b ≡ map (normal self.now) (grow before node.now)) }
     {
-        match rel.node(end - 1) {
-            RelNode::Var(number, ty) => {
-                let variable = plain_variable(alloc, *number, ty.copy(alloc)?)?;
-                Ok((RelPiece::Whole(variable), end - 1))
-            }
-            RelNode::Eq(ty) => Ok((RelPiece::Whole(self.eq_of_type(alloc, ty)?), end - 1)),
+        match node {
+            RelNode::Var(number, ty) => Ok(builder.var(alloc, *number, ty.copy(alloc)?)?),
+            RelNode::Eq(ty) => Ok(builder.rel(alloc, &self.eq_of_type(alloc, ty)?)?),
             RelNode::Con(name, types, places) => {
-                Ok(self.normal_con(alloc, rel, end, name, types, places)?)
+                let (copy, types) = (name.copy(alloc)?, types.copy(alloc)?);
+                let builder = builder.con(alloc, copy, types, places.len())?;
+                Ok(self.as_form(builder, alloc, name)?)
             }
         }
     }
 
-    /// The same where the last node is a constructor.
-    fn normal_con(
+    /// Puts the parametrised form of a constructor, if it has one, in the place of the last
+    /// expression.
+    fn as_form(
         &self,
+        builder: RelBuilder,
         alloc: Global,
-        rel: &Rel,
-        end: usize,
         name: &Name,
-        types: &Tys,
-        places: &Ids,
-    ) -> Result<(RelPiece, usize), Memory>
-        requires above { 0 < end }
-        requires within { end ≤ relation_size rel.now }
-        requires node { slice_get (relation_nodes 0 rel.now) (end - 1)
-            ≡ Some (Con name.now types.now places.now) }
-        ensures { IfOk result (λ x. IsRelStep (normal self.now) rel.now end x.0 x.1) }
+    ) -> Result<RelBuilder, Memory>
+        requires { 0 < length builder }
+        ensures { IfOk result (λ b. (before : List Relation) → (ts : List TypeTree)
+            → (rs : Relations) → builder ≡ before ++ constructed name.now ts rs ∷ []
+            → b ≡ before ++ normal_constructed self.now (form_for self.now name.now) name.now ts rs
+            ∷ []) }
     {
         match self.param_of(name) {
-            Some(form) => {
-                let start = rel.start_of(end);
-                let ty = self.right(alloc, &rel.part(alloc, start, end)?)?;
-                let over = self.form_over(alloc, &form.name, &ty)?;
-                Ok((RelPiece::Whole(over), start))
-            }
-            None => {
-                let (name, types) = (name.copy(alloc)?, types.copy(alloc)?);
-                Ok((RelPiece::Con(name, types, places.len()), end - 1))
-            }
+            Some(form) => Ok(self.put_form(builder, alloc, &form.name)?),
+            None => Ok(builder),
         }
+    }
+
+    /// Puts a parametrised form over the equalities at the arguments of its right type in the place
+    /// of the last expression.
+    fn put_form(
+        &self,
+        builder: RelBuilder,
+        alloc: Global,
+        name: &Name,
+    ) -> Result<RelBuilder, Memory>
+        requires { 0 < length builder }
+        ensures { IfOk result (λ b. (before : List Relation) → (r : Relation)
+            → builder ≡ before ++ r ∷ []
+            → b ≡ before ++ constructed name.now []
+            (normal_equalities self.now (arguments_of (right self.now r))) ∷ []) }
+    {
+        let (builder, last) = builder.split_last(alloc)?;
+        let form = self.form_over(alloc, name, &self.right(alloc, &last)?)?;
+        Ok(builder.rel(alloc, &form)?)
     }
 
     /// A parametrised form over the equalities at the arguments of a type.
@@ -173,11 +179,4 @@ fn plain_equality(alloc: Global, ty: Ty) -> Result<Rel, Memory>
     ensures { IfOk result (λ r. r ≡ equality ty) }
 {
     RelBuilder::new(alloc).equality(alloc, ty)?.finish(alloc)
-}
-
-/// A variable with its number and right type.
-fn plain_variable(alloc: Global, number: usize, ty: Ty) -> Result<Rel, Memory>
-    ensures { IfOk result (λ r. r ≡ relation_variable number ty) }
-{
-    RelBuilder::new(alloc).var(alloc, number, ty)?.finish(alloc)
 }

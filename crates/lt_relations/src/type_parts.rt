@@ -1,5 +1,5 @@
 //! The parts of a type, its variables, and types for names.
-ghost use Rattle.std.specs.Prelude.{◌≡◌, ◌<◌, ◌≤◌, ◌∷◌, [], ◌++◌, take, IfOk};
+ghost use Rattle.std.specs.Prelude.{◌≡◌, ◌<◌, ◌≤◌, List, ◌∷◌, [], ◌++◌, take, IfOk};
 ghost use Rattle.std.specs.List.{zip};
 ghost use Rattle.lt_definitions.specs.Types.{Chars, TypeTree, type_variables, listed, found};
 ghost use Rattle.lt_types.specs.Layout.{type_nodes, type_size, forest};
