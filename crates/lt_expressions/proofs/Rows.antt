@@ -104,8 +104,8 @@ pub record HasLast (nodes : List RelNode) (places : List ℕ) (made : List Relat
   pub tail : drop (behind (take (length places - 1) places)) nodes ≡ relation_nodes (sizes (relation_row front)) last
 
 ends : (r : Relation) (f : List Relation) → (front : List Relation) × (last : Relation) × (r ∷ f ≡ front ++ last ∷ [])
-ends r [] = ([], (r, refl))
-ends r (s ∷ f) = let k = ends s f in (r ∷ k.0, (k.1, ap (λ g. r ∷ g) k.2))
+ends r [] = ([], r, refl)
+ends r (s ∷ f) = let k = ends s f in (r ∷ k.0, k.1, ap (λ g. r ∷ g) k.2)
 
 parted : (nodes : List RelNode) (places : List ℕ) (front : List Relation) (last : Relation) → IsRow nodes places (front ++ last ∷ []) → HasLast nodes places (front ++ last ∷ [])
 parted nodes places front last h = record {

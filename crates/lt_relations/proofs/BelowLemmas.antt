@@ -41,10 +41,6 @@ equality-below G (constructed c ts rs) (relation_variable n t) e h = (e, h)
 equality-below G (constructed c ts rs) (equality t) e h = (e, h)
 equality-below G (constructed c ts rs) (constructed d us ss) e h = (e, inl h)
 
-abbrev head_right : TypeTrees → (TypeTree → TypeTree) → TypeTree
-head_right no_types f = f bool
-head_right (type_and t ts) f = f t
-
 first-type : {t u : TypeTree} {ts us : TypeTrees} → type_and t ts ≡ type_and u us → t ≡ u
 first-type p = cc
 
@@ -79,7 +75,7 @@ one-head G c d ts us rs ss p q = (
     | inl e ↦ relator-below G (kind_of G c) ts rs ss (h.0 ∙ (λ i. right_of (kind_of G (sym p i)) (sym q i) (rights G ss))) e
     | inr e ↦ e.2
   ],
-  λ h. ((λ i. right_of (kind_of G (p i)) (q i) (below-rights G rs ss h i)), inr (p, (q, h))),
+  λ h. ((λ i. right_of (kind_of G (p i)) (q i) (below-rights G rs ss h i)), inr (p, q, h)),
 )
 
 -- ---- rows with more at the end
@@ -127,7 +123,7 @@ apart G xs ys (Con c ts ids) (Var k t) r s d h = h.1
 apart G xs ys (Con c ts ids) (Eq t) r s d h = h.1
 apart G xs ys (Con c ts ids) (Con e us places) r s d h = elim h.1 [
   | inl q ↦ q
-  | inr q ↦ absurd (d (q.0, (q.1, count q.2)))
+  | inr q ↦ absurd (d (q.0, q.1, count q.2))
 ]
   where
     count : AreBelow G (relation_row (drop (length xs - length ids) xs)) (relation_row (drop (length ys - length places) ys)) → length ids ≡ length places
@@ -155,10 +151,10 @@ pub step-decided : (G : Registry) (lower upper : Relation) (places next : ℕ ×
 step-decided G lower upper places next x y h a b p q z =
     let count : length (before lower next.0) ≡ length (before upper next.1) = last-count _ _ x y (ap length (sym p) ∙ h.count ∙ ap length q) in
     let row = row-below G (before lower next.0) (before upper next.1) (x ∷ []) (y ∷ []) count in
-    (a, (record { lower_within = omega (arith, a, h.lower_within); upper_within = omega (arith, b, h.upper_within); count = count }, (
+    (a, record { lower_within = omega (arith, a, h.lower_within); upper_within = omega (arith, b, h.upper_within); count = count }, (
       λ g. (row.0 (subst (λ ss. AreBelow G (relation_row (before lower next.0 ++ x ∷ [])) (relation_row ss)) q (subst (λ rs. AreBelow G (relation_row rs) (relation_row (before upper places.1))) p g))).0,
       λ g. subst (λ rs. AreBelow G (relation_row rs) (relation_row (before upper places.1))) (sym p) (subst (λ ss. AreBelow G (relation_row (before lower next.0 ++ x ∷ [])) (relation_row ss)) (sym q) (row.1 (g, (z, tt)))),
-    )))
+    ))
 
 pub step-refused : (G : Registry) (lower upper : Relation) (places next : ℕ × ℕ) (x y : Relation) → ArePlaces lower upper places
     → before lower places.0 ≡ before lower next.0 ++ x ∷ [] → before upper places.1 ≡ before upper next.1 ++ y ∷ []
@@ -176,14 +172,14 @@ step-heads G lower upper places (Eq t) m a b h l r d = absurd d
 step-heads G lower upper places (Con c ts ids) (Var k t) a b h l r d = absurd d
 step-heads G lower upper places (Con c ts ids) (Eq t) a b h l r d = absurd d
 step-heads G lower upper places (Con c ts ids) (Con e us js) a b h l r d =
-    (omega (arith, a), (record { lower_within = omega (arith, h.lower_within); upper_within = omega (arith, h.upper_within); count = count }, (
+    (omega (arith, a), record { lower_within = omega (arith, h.lower_within); upper_within = omega (arith, h.upper_within); count = count }, (
       λ g. let parts = outer.0 (subst (λ ss. AreBelow G (relation_row (kept ++ x ∷ [])) (relation_row ss)) r.next (subst (λ rs. AreBelow G (relation_row rs) (relation_row (before upper places.1))) l.next g)) in
           subst (λ ss. AreBelow G (relation_row xs) (relation_row ss)) (take-append-drop (length ys - length js) ys)
           (subst (λ rs. AreBelow G (relation_row rs) (relation_row (take (length ys - length js) ys ++ drop (length ys - length js) ys))) (take-append-drop (length xs - length ids) xs)
           (inner.1 (parts.0, head.0 parts.1.0))),
       λ g. let parts = inner.0 (subst (λ ss. AreBelow G (relation_row (take (length xs - length ids) xs ++ drop (length xs - length ids) xs)) (relation_row ss)) (sym (take-append-drop (length ys - length js) ys)) (subst (λ rs. AreBelow G (relation_row rs) (relation_row ys)) (sym (take-append-drop (length xs - length ids) xs)) g)) in
           subst (λ rs. AreBelow G (relation_row rs) (relation_row (before upper places.1))) (sym l.next) (subst (λ ss. AreBelow G (relation_row (kept ++ x ∷ [])) (relation_row ss)) (sym r.next) (outer.1 (parts.0, (head.1 parts.1, tt)))),
-    )))
+    ))
   where
     xs : List Relation
     xs = forest [] (take (places.0 - 1) (relation_nodes 0 lower))

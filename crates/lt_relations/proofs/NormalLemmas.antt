@@ -44,7 +44,7 @@ equality-con G ty end c K ids n ts some l e count none = record {
   fits = simp length-map (omega (arith, l.room, count));
   made =
       (λ i. take (length (map N front) - count i) (map N front) ++ constructed K (none i) (relation_row (drop (length (map N front) - count i) (map N front))) ∷ [])
-      ∙ simp (length-map, take-map, drop-map) refl
+      ∙ moved
       ∙ (λ i. map N (take (length front - length ids) front) ++ sym own i ∷ [])
       ∙ sym (map-append N (take (length front - length ids) front) (type_constructor c (row args) ∷ []))
       ∙ ap (map N) (sym l.next);
@@ -58,6 +58,10 @@ equality-con G ty end c K ids n ts some l e count none = record {
 
     args : List TypeTree
     args = drop (length front - length ids) front
+
+    moved : take (length (map N front) - length ids) (map N front) ++ constructed K [] (relation_row (drop (length (map N front) - length ids) (map N front))) ∷ []
+        ≡ map N (take (length front - length ids) front) ++ constructed K [] (relation_row (map N args)) ∷ []
+    moved = simp (length-map, take-map, drop-map) refl
 
     own : normal_equality G (type_constructor c (row args)) ≡ constructed K [] (relation_row (map (normal_equality G) args))
     own = ap (λ o. equality_by o (type_constructor c (row args)) (normal_equalities G (row args))) e ∙ ap (constructed K []) (equalities-row G args)
@@ -103,8 +107,11 @@ pub normal-con : (G : Registry) (before made : List Relation) (c : Chars) (ts : 
     → joined c ts n made ≡ map (normal G) (take (length before - n) before) ++ constructed c ts (normals G (relation_row (drop (length before - n) before))) ∷ []
 normal-con G before made c ts n e =
     ap (joined c ts n) e
-    ∙ simp (length-map, take-map, drop-map) refl
+    ∙ moved
     ∙ ap (λ rs. map (normal G) (take (length before - n) before) ++ constructed c ts rs ∷ []) (sym (normals-row G (drop (length before - n) before)))
+  where
+    moved : joined c ts n (map (normal G) before) ≡ map (normal G) (take (length before - n) before) ++ constructed c ts (relation_row (map (normal G) (drop (length before - n) before))) ∷ []
+    moved = simp (length-map, take-map, drop-map) refl
 
 pub normal-put : (G : Registry) (before later : List Relation) (c : Chars) (ts : List TypeTree) (n : ℕ)
     → later ≡ map (normal G) (take (length before - n) before) ++ normal_constructed G (form_for G c) c ts (normals G (relation_row (drop (length before - n) before))) ∷ []

@@ -105,7 +105,7 @@ right-over G rel end c K ts ids n some l count e = record {
   fits = simp length-map (omega (arith, l.room, count));
   made =
       (λ i. take (length (map (right G) front) - count i) (map (right G) front) ++ type_constructor K (row (drop (length (map (right G) front) - count i) (map (right G) front))) ∷ [])
-      ∙ simp (length-map, take-map, drop-map) refl
+      ∙ moved
       ∙ (λ i. map (right G) (take (length front - length ids) front) ++ sym (e (rights G (relation_row args)) ∙ ap (type_constructor K) (rights-row G args)) i ∷ [])
       ∙ sym (map-append (right G) (take (length front - length ids) front) (constructed c ts (relation_row args) ∷ []))
       ∙ ap (map (right G)) (sym l.next);
@@ -116,6 +116,10 @@ right-over G rel end c K ts ids n some l count e = record {
 
     args : List Relation
     args = drop (length front - length ids) front
+
+    moved : take (length (map (right G) front) - length ids) (map (right G) front) ++ type_constructor K (row (drop (length (map (right G) front) - length ids) (map (right G) front))) ∷ []
+        ≡ map (right G) (take (length front - length ids) front) ++ type_constructor K (row (map (right G) args)) ∷ []
+    moved = simp (length-map, take-map, drop-map) refl
 
 pub right-whole : (G : Registry) (rel : Relation) (end start : ℕ) (c : Chars) (ts : List TypeTree) (ids : List ℕ) (t : TypeTree) → end ≤ relation_size rel → IsLast rel end (Con c ts ids)
     → BeginsAt (relation_nodes 0 rel) end start → ((rights : TypeTrees) → right_of (kind_of G c) ts rights ≡ t)
