@@ -1,5 +1,6 @@
 -- Expressions that lie one after another.
-use Rattle.std.proofs.Common.{◌≡◌, ℕ, ◌+◌, ◌-◌, ◌≤◌, ◌<◌, List, [], ◌∷◌, ◌++◌, length, take, drop, sym, ◌∙◌, ap, subst, arith, append_assoc, append-nil, length-append, refl}
+use Rattle.std.proofs.Common.{◌≡◌, ℕ, suc, slice_get, Some, ◌+◌, ◌-◌, ◌≤◌, ◌<◌, List, [], ◌∷◌, ◌++◌, length, take, drop, sym, ◌∙◌, ap, subst, arith, append_assoc, append-nil, length-append, refl}
+use Rattle.std.proofs.lemmas.Option.{same_Some, none-some}
 use Rattle.std.proofs.lemmas.List.{take-append-drop, length-take-le}
 use Rattle.std.proofs.Math.Seq.{take-append_seam, drop-append_seam}
 use Rattle.lt_expressions.specs.declared.rel.RelNode.{RelNode}
@@ -93,7 +94,7 @@ behind-roots from (s ∷ f) r = behind-roots (from + relation_size r) f s ∙ om
 
 pub behind-row : (f : List Relation) → behind (roots 0 (relation_row f)) ≡ sizes (relation_row f)
 behind-row [] = refl
-behind-row (r ∷ f) = behind-roots 0 f r
+behind-row (r ∷ f) = behind-roots 0 f r ∙ omega arith
 
 pub record HasLast (nodes : List RelNode) (places : List ℕ) (made : List Relation) : Type 0 where
   pub front : List Relation
@@ -101,7 +102,7 @@ pub record HasLast (nodes : List RelNode) (places : List ℕ) (made : List Relat
   pub all : made ≡ front ++ last ∷ []
   pub row : IsRow (take (behind (take (length places - 1) places)) nodes) (take (length places - 1) places) front
   pub fits : behind (take (length places - 1) places) ≤ length nodes
-  pub tail : drop (behind (take (length places - 1) places)) nodes ≡ relation_nodes (sizes (relation_row front)) last
+  pub tail : drop (behind (take (length places - 1) places)) nodes ≡ relation_nodes (0 + sizes (relation_row front)) last
 
 ends : (r : Relation) (f : List Relation) → (front : List Relation) × (last : Relation) × (r ∷ f ≡ front ++ last ∷ [])
 ends r [] = ([], r, refl)
@@ -112,16 +113,16 @@ parted nodes places front last h = record {
   front = front;
   last = last;
   all = refl;
-  row = record { laid = ap (λ k. take k nodes) place ∙ (λ i. take (sym count i) (split i)) ∙ take-append_seam (row_nodes 0 (relation_row front)) (relation_nodes (sizes (relation_row front)) last); at = kept };
-  fits = omega (arith, place, ap length split, length-append (row_nodes 0 (relation_row front)) (relation_nodes (sizes (relation_row front)) last), count);
-  tail = ap (λ k. drop k nodes) place ∙ (λ i. drop (sym count i) (split i)) ∙ drop-append_seam (row_nodes 0 (relation_row front)) (relation_nodes (sizes (relation_row front)) last);
+  row = record { laid = ap (λ k. take k nodes) place ∙ (λ i. take (sym count i) (split i)) ∙ take-append_seam (row_nodes 0 (relation_row front)) (relation_nodes (0 + sizes (relation_row front)) last); at = kept };
+  fits = omega (arith, place, ap length split, length-append (row_nodes 0 (relation_row front)) (relation_nodes (0 + sizes (relation_row front)) last), count);
+  tail = ap (λ k. drop k nodes) place ∙ (λ i. drop (sym count i) (split i)) ∙ drop-append_seam (row_nodes 0 (relation_row front)) (relation_nodes (0 + sizes (relation_row front)) last);
 }
   where
     count : length (row_nodes 0 (relation_row front)) ≡ sizes (relation_row front)
     count = length-row_nodes 0 (relation_row front)
 
-    split : nodes ≡ row_nodes 0 (relation_row front) ++ relation_nodes (sizes (relation_row front)) last
-    split = h.laid ∙ all-append 0 front (last ∷ []) ∙ ap (λ ns. row_nodes 0 (relation_row front) ++ ns) (append-nil (relation_nodes (sizes (relation_row front)) last))
+    split : nodes ≡ row_nodes 0 (relation_row front) ++ relation_nodes (0 + sizes (relation_row front)) last
+    split = h.laid ∙ all-append 0 front (last ∷ []) ∙ ap (λ ns. row_nodes 0 (relation_row front) ++ ns) (append-nil (relation_nodes (0 + sizes (relation_row front)) last))
 
     less : length places - 1 ≡ length (roots 0 (relation_row front))
     less = omega (arith, length-row nodes places (front ++ last ∷ []) h, length-append front (last ∷ []), length-roots 0 (relation_row front), ap length (list-row front))
@@ -137,3 +138,15 @@ has-last nodes places [] h some = absurd (omega (arith, some))
 has-last nodes places (r ∷ f) h some =
     let k = ends r f in
     subst (λ (g : List Relation). HasLast nodes places g) (sym k.2) (parted nodes places k.0 k.1 (subst (λ (g : List Relation). IsRow nodes places g) k.2 h))
+
+pub row-moved : (nodes more_nodes : List RelNode) (places more_places : List ℕ) (made : List Relation) → more_nodes ≡ nodes → more_places ≡ places → IsRow nodes places made → IsRow more_nodes more_places made
+row-moved nodes more_nodes places more_places made p q h = record { laid = p ∙ h.laid; at = q ∙ h.at }
+
+pub behind-last : (rs : List ℕ) (r : ℕ) → slice_get rs (length rs - 1) ≡ Some r → behind rs ≡ r + 1
+behind-last [] r h = absurd (none-some r h)
+behind-last (x ∷ []) r h =
+    let e : length (x ∷ []) - 1 ≡ 0 = omega arith in
+    ap (λ k. k + 1) (same_Some x r (ap (slice_get (x ∷ [])) (sym e) ∙ h))
+behind-last (x ∷ y ∷ rs) r h =
+    let e : length (x ∷ y ∷ rs) - 1 ≡ suc (length (y ∷ rs) - 1) = omega arith in
+    behind-last (y ∷ rs) r (ap (slice_get (x ∷ y ∷ rs)) (sym e) ∙ h)

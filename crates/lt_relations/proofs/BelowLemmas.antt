@@ -14,7 +14,7 @@ use Rattle.lt_expressions.specs.Parts.{HaveOneHead}
 use Rattle.lt_expressions.proofs.LayoutLemmas.{whole, length-relation_nodes}
 use Rattle.lt_expressions.proofs.PartLemmas.{snoc-inj}
 use Rattle.lt_relations.specs.BelowSteps.{before, ArePlaces, AreBelowBefore, IsBelowStep}
-use Rattle.lt_relations.proofs.PieceLemmas.{IsLast}
+use Rattle.lt_relations.proofs.PieceLemmas.{IsLast, tree_over, rest, grown}
 
 -- ---- what is below has the same right type
 
@@ -98,22 +98,6 @@ below-count G (x ∷ xs) (y ∷ ys) h = ap suc (below-count G xs ys h.1)
 
 -- ---- steps
 
--- the expression of a node that stands behind others
-abbrev tree_over : List Relation → RelNode → Relation
-tree_over front (Var n t) = relation_variable n t
-tree_over front (Eq t) = equality t
-tree_over front (Con c ts ids) = constructed c ts (relation_row (drop (length front - length ids) front))
-
-abbrev rest : List Relation → RelNode → List Relation
-rest front (Var n t) = front
-rest front (Eq t) = front
-rest front (Con c ts ids) = take (length front - length ids) front
-
-grown : (front : List Relation) (n : RelNode) → grow front n ≡ rest front n ++ tree_over front n ∷ []
-grown front (Var n t) = refl
-grown front (Eq t) = refl
-grown front (Con c ts ids) = refl
-
 -- heads that differ leave equality throughout alone
 apart : (G : Registry) (xs ys : List Relation) (n m : RelNode) → HasRoom xs n → HasRoom ys m → (HaveOneHead n m → ⊥) → Below G (tree_over xs n) (tree_over ys m)
     → is_equality G (tree_over xs n) ≡ true
@@ -150,11 +134,14 @@ pub step-decided : (G : Registry) (lower upper : Relation) (places next : ℕ ×
     → Below G x y → IsBelowStep G lower upper places (Some next)
 step-decided G lower upper places next x y h a b p q z =
     let count : length (before lower next.0) ≡ length (before upper next.1) = last-count _ _ x y (ap length (sym p) ∙ h.count ∙ ap length q) in
-    let row = row-below G (before lower next.0) (before upper next.1) (x ∷ []) (y ∷ []) count in
-    (a, record { lower_within = omega (arith, a, h.lower_within); upper_within = omega (arith, b, h.upper_within); count = count }, (
-      λ g. (row.0 (subst (λ ss. AreBelow G (relation_row (before lower next.0 ++ x ∷ [])) (relation_row ss)) q (subst (λ rs. AreBelow G (relation_row rs) (relation_row (before upper places.1))) p g))).0,
-      λ g. subst (λ rs. AreBelow G (relation_row rs) (relation_row (before upper places.1))) (sym p) (subst (λ ss. AreBelow G (relation_row (before lower next.0 ++ x ∷ [])) (relation_row ss)) (sym q) (row.1 (g, (z, tt)))),
-    ))
+    let row = row-below G (before lower next.0) (before upper next.1) (x ∷ []) (y ∷ []) count in (
+      a,
+      record { lower_within = omega (arith, a, h.lower_within); upper_within = omega (arith, b, h.upper_within); count = count },
+      (
+        λ g. (row.0 (subst (λ ss. AreBelow G (relation_row (before lower next.0 ++ x ∷ [])) (relation_row ss)) q (subst (λ rs. AreBelow G (relation_row rs) (relation_row (before upper places.1))) p g))).0,
+        λ g. subst (λ rs. AreBelow G (relation_row rs) (relation_row (before upper places.1))) (sym p) (subst (λ ss. AreBelow G (relation_row (before lower next.0 ++ x ∷ [])) (relation_row ss)) (sym q) (row.1 (g, (z, tt)))),
+      ),
+    )
 
 pub step-refused : (G : Registry) (lower upper : Relation) (places next : ℕ × ℕ) (x y : Relation) → ArePlaces lower upper places
     → before lower places.0 ≡ before lower next.0 ++ x ∷ [] → before upper places.1 ≡ before upper next.1 ++ y ∷ []
@@ -171,15 +158,18 @@ step-heads G lower upper places (Var k t) m a b h l r d = absurd d
 step-heads G lower upper places (Eq t) m a b h l r d = absurd d
 step-heads G lower upper places (Con c ts ids) (Var k t) a b h l r d = absurd d
 step-heads G lower upper places (Con c ts ids) (Eq t) a b h l r d = absurd d
-step-heads G lower upper places (Con c ts ids) (Con e us js) a b h l r d =
-    (omega (arith, a), record { lower_within = omega (arith, h.lower_within); upper_within = omega (arith, h.upper_within); count = count }, (
-      λ g. let parts = outer.0 (subst (λ ss. AreBelow G (relation_row (kept ++ x ∷ [])) (relation_row ss)) r.next (subst (λ rs. AreBelow G (relation_row rs) (relation_row (before upper places.1))) l.next g)) in
-          subst (λ ss. AreBelow G (relation_row xs) (relation_row ss)) (take-append-drop (length ys - length js) ys)
-          (subst (λ rs. AreBelow G (relation_row rs) (relation_row (take (length ys - length js) ys ++ drop (length ys - length js) ys))) (take-append-drop (length xs - length ids) xs)
-          (inner.1 (parts.0, head.0 parts.1.0))),
-      λ g. let parts = inner.0 (subst (λ ss. AreBelow G (relation_row (take (length xs - length ids) xs ++ drop (length xs - length ids) xs)) (relation_row ss)) (sym (take-append-drop (length ys - length js) ys)) (subst (λ rs. AreBelow G (relation_row rs) (relation_row ys)) (sym (take-append-drop (length xs - length ids) xs)) g)) in
-          subst (λ rs. AreBelow G (relation_row rs) (relation_row (before upper places.1))) (sym l.next) (subst (λ ss. AreBelow G (relation_row (kept ++ x ∷ [])) (relation_row ss)) (sym r.next) (outer.1 (parts.0, (head.1 parts.1, tt)))),
-    ))
+step-heads G lower upper places (Con c ts ids) (Con e us js) a b h l r d = (
+  omega (arith, a),
+  record { lower_within = omega (arith, h.lower_within); upper_within = omega (arith, h.upper_within); count = count },
+  (
+    λ g. let parts = outer.0 (subst (λ ss. AreBelow G (relation_row (kept ++ x ∷ [])) (relation_row ss)) r.next (subst (λ rs. AreBelow G (relation_row rs) (relation_row (before upper places.1))) l.next g)) in
+        subst (λ ss. AreBelow G (relation_row xs) (relation_row ss)) (take-append-drop (length ys - length js) ys)
+        (subst (λ rs. AreBelow G (relation_row rs) (relation_row (take (length ys - length js) ys ++ drop (length ys - length js) ys))) (take-append-drop (length xs - length ids) xs)
+        (inner.1 (parts.0, head.0 parts.1.0))),
+    λ g. let parts = inner.0 (subst (λ ss. AreBelow G (relation_row (take (length xs - length ids) xs ++ drop (length xs - length ids) xs)) (relation_row ss)) (sym (take-append-drop (length ys - length js) ys)) (subst (λ rs. AreBelow G (relation_row rs) (relation_row ys)) (sym (take-append-drop (length xs - length ids) xs)) g)) in
+        subst (λ rs. AreBelow G (relation_row rs) (relation_row (before upper places.1))) (sym l.next) (subst (λ ss. AreBelow G (relation_row (kept ++ x ∷ [])) (relation_row ss)) (sym r.next) (outer.1 (parts.0, (head.1 parts.1, tt)))),
+  ),
+)
   where
     xs : List Relation
     xs = forest [] (take (places.0 - 1) (relation_nodes 0 lower))
@@ -238,11 +228,13 @@ all-decided G lower upper places h e = by (before upper places.1) (sym h.count �
 -- at the ends there are the two expressions
 pub places-first : (G : Registry) (lower upper : Relation) (places : ℕ × ℕ) → places.0 ≡ relation_size lower → places.1 ≡ relation_size upper
     → ArePlaces lower upper places × (Below G lower upper ↔ AreBelowBefore G lower upper places)
-places-first G lower upper places p q =
-    (record { lower_within = omega (arith, p); upper_within = omega (arith, q); count = ap length first ∙ sym (ap length second) }, (
-      λ h. subst (λ rs. AreBelow G (relation_row rs) (relation_row (before upper places.1))) (sym first) (subst (λ ss. AreBelow G (relation_and lower no_relations) (relation_row ss)) (sym second) (h, tt)),
-      λ h. (subst (λ ss. AreBelow G (relation_and lower no_relations) (relation_row ss)) second (subst (λ rs. AreBelow G (relation_row rs) (relation_row (before upper places.1))) first h)).0,
-    ))
+places-first G lower upper places p q = (
+  record { lower_within = omega (arith, p); upper_within = omega (arith, q); count = ap length first ∙ sym (ap length second) },
+  (
+    λ h. subst (λ rs. AreBelow G (relation_row rs) (relation_row (before upper places.1))) (sym first) (subst (λ ss. AreBelow G (relation_and lower no_relations) (relation_row ss)) (sym second) (h, tt)),
+    λ h. (subst (λ ss. AreBelow G (relation_and lower no_relations) (relation_row ss)) second (subst (λ rs. AreBelow G (relation_row rs) (relation_row (before upper places.1))) first h)).0,
+  ),
+)
   where
     first : before lower places.0 ≡ lower ∷ []
     first = whole (relation_nodes 0 lower) lower places.0 refl (omega (arith, p, length-relation_nodes 0 lower)) (omega (arith, p, length-relation_nodes 0 lower))

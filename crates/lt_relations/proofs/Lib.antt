@@ -6,3 +6,4 @@ pub mod TypeMapLemmas
 pub mod PieceLemmas
 pub mod BelowLemmas
 pub mod NormalLemmas
+pub mod WritingLemmas

@@ -134,19 +134,51 @@ right-whole G rel end start c ts ids t within l b e = record {
       ∙ ap (map (right G)) (sym one.1);
 }
 
--- ---- left types of a node's expression
+-- ---- what belongs to a node's expression
+
+-- the expression of a node that stands behind others, and those that are no arguments of it
+abbrev pub tree_over : List Relation → RelNode → Relation
+tree_over front (Var n t) = relation_variable n t
+tree_over front (Eq t) = equality t
+tree_over front (Con c ts ids) = constructed c ts (relation_row (drop (length front - length ids) front))
+
+abbrev pub rest : List Relation → RelNode → List Relation
+rest front (Var n t) = front
+rest front (Eq t) = front
+rest front (Con c ts ids) = take (length front - length ids) front
+
+pub grown : (front : List Relation) (n : RelNode) → grow front n ≡ rest front n ++ tree_over front n ∷ []
+grown front (Var n t) = refl
+grown front (Eq t) = refl
+grown front (Con c ts ids) = refl
+
+all-kept : {A : Type 0} (xs : List A) → take (length xs - 0) xs ≡ xs
+all-kept xs = let none : length xs - 0 ≡ length xs = omega arith in ap (λ k. take k xs) none ∙ take-length xs
+
+rest-taken : (front : List Relation) (n : RelNode) → rest front n ≡ take (length front - arguments n) front
+rest-taken front (Var m t) = sym (all-kept front)
+rest-taken front (Eq t) = sym (all-kept front)
+rest-taken front (Con c ts ids) = refl
+
+-- a value of each expression, which is one of its node and of the values of its arguments
+pub node-grown : {A : Type 0} (f : Relation → A) (value : RelNode → List A → A)
+    → ((front : List Relation) (n : RelNode) → f (tree_over front n) ≡ value n (map f (drop (length front - arguments n) front)))
+    → (before : List Relation) (n : RelNode) (made kept args : List A) (x : A) → made ≡ map f before
+    → kept ≡ take (length made - arguments n) made → args ≡ drop (length made - arguments n) made → x ≡ value n args
+    → kept ++ x ∷ [] ≡ map f (grow before n)
+node-grown {A} f value own before n made kept args x e k a h =
+    let at : length made - arguments n ≡ length before - arguments n = ap (λ (ms : List A). length ms - arguments n) e ∙ ap (λ m. m - arguments n) (length-map before f) in
+    let front : kept ≡ map f (rest before n) = k ∙ (λ i. take (at i) (e i)) ∙ take-map f (length before - arguments n) before ∙ ap (map f) (sym (rest-taken before n)) in
+    let back : args ≡ map f (drop (length before - arguments n) before) = a ∙ (λ i. drop (at i) (e i)) ∙ drop-map f (length before - arguments n) before in
+    let last : x ≡ f (tree_over before n) = h ∙ ap (value n) back ∙ sym (own before n) in
+    (λ i. front i ++ last i ∷ []) ∙ sym (map-append f (rest before n) (tree_over before n ∷ [])) ∙ ap (map f) (sym (grown before n))
+
+left-own : (G : Registry) (front : List Relation) (n : RelNode) → left G (tree_over front n) ≡ node_left G n (map (left G) (drop (length front - arguments n) front))
+left-own G front (Var m t) = refl
+left-own G front (Eq t) = refl
+left-own G front (Con c ts ids) = ap (left_of (kind_of G c) ts) (lefts-row G (drop (length front - length ids) front))
 
 pub left-grown : (G : Registry) (before : List Relation) (n : RelNode) (made kept args : List TypeTree) (t : TypeTree) → made ≡ map (left G) before
     → kept ≡ take (length made - arguments n) made → args ≡ drop (length made - arguments n) made → t ≡ node_left G n args
     → kept ++ t ∷ [] ≡ map (left G) (grow before n)
-left-grown G before (Var m ty) made kept args t e k a h =
-    (λ i. (k ∙ take-length made ∙ e) i ++ h i ∷ []) ∙ sym (map-append (left G) before (relation_variable m ty ∷ []))
-left-grown G before (Eq ty) made kept args t e k a h =
-    (λ i. (k ∙ take-length made ∙ e) i ++ h i ∷ []) ∙ sym (map-append (left G) before (equality ty ∷ []))
-left-grown G before (Con c ts ids) made kept args t e k a h =
-    let at : length made - length ids ≡ length before - length ids = ap (λ (ms : List TypeTree). length ms - length ids) e ∙ ap (λ m. m - length ids) (length-map before (left G)) in
-    let last : List Relation = drop (length before - length ids) before in
-    let front : kept ≡ map (left G) (take (length before - length ids) before) = k ∙ (λ i. take (at i) (e i)) ∙ take-map (left G) (length before - length ids) before in
-    let back : args ≡ map (left G) last = a ∙ (λ i. drop (at i) (e i)) ∙ drop-map (left G) (length before - length ids) before in
-    let own : t ≡ left G (constructed c ts (relation_row last)) = h ∙ ap (λ (ls : List TypeTree). left_of (kind_of G c) ts (row ls)) back ∙ ap (left_of (kind_of G c) ts) (sym (lefts-row G last)) in
-    (λ i. front i ++ own i ∷ []) ∙ sym (map-append (left G) (take (length before - length ids) before) (constructed c ts (relation_row last) ∷ []))
+left-grown G = node-grown (left G) (node_left G) (left-own G)

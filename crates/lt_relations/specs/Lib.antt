@@ -8,3 +8,4 @@ pub mod Holdings
 pub mod Maps
 pub mod Pieces
 pub mod BelowSteps
+pub mod Writing

@@ -13,6 +13,7 @@ mod relations;
 mod sides_of;
 mod table;
 mod type_parts;
+mod written;
 
 pub use entries::{
     Correspondence, DomainRule, Param, PropertyRule, RelationVariable, Relator, Sides,

@@ -111,12 +111,7 @@ impl Relations {
 
     /// Puts the parametrised form of a constructor, if it has one, in the place of the last
     /// expression.
-    fn as_form(
-        &self,
-        builder: RelBuilder,
-        alloc: Global,
-        name: &Name,
-    ) -> Result<RelBuilder, Memory>
+    fn as_form(&self, builder: RelBuilder, alloc: Global, name: &Name) -> Result<RelBuilder, Memory>
         requires { 0 < length builder }
         ensures { IfOk result (λ b. (before : List Relation) → (ts : List TypeTree)
             → (rs : Relations) → builder ≡ before ++ constructed name.now ts rs ∷ []

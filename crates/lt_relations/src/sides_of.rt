@@ -62,7 +62,7 @@ impl Relations {
     }
 
     /// The right type of a head.
-    fn right_head(&self, alloc: Global, name: &Name, types: &Tys) -> Result<HeadType, Memory>
+    pub(crate) fn right_head(&self, alloc: Global, name: &Name, types: &Tys) -> Result<HeadType, Memory>
         ensures { IfOk result (λ h. (rights : TypeTrees)
             → right_of (kind_of self.now name.now) types.now rights ≡ head_type h rights) }
     {
@@ -116,7 +116,7 @@ impl Relations {
     }
 
     /// The left type of a constructor over arguments with these left types.
-    fn left_of(&self, alloc: Global, name: &Name, types: &Tys, args: Tys) -> Result<Ty, Memory>
+    pub(crate) fn left_of(&self, alloc: Global, name: &Name, types: &Tys, args: Tys) -> Result<Ty, Memory>
         ensures { IfOk result (λ t. t ≡ left_of (kind_of self.now name.now) types.now (row args)) }
     {
         match self.kind_of(name) {
