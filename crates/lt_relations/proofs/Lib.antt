@@ -7,3 +7,4 @@ pub mod PieceLemmas
 pub mod BelowLemmas
 pub mod NormalLemmas
 pub mod WritingLemmas
+pub mod WalkLemmas

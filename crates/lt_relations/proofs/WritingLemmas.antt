@@ -1,7 +1,7 @@
 -- Terms of expressions, one node after another.
 use Rattle.std.proofs.Common.{◌≡◌, ◌∙◌, ℕ, suc, ◌+◌, ◌-◌, ◌<◌, List, [], ◌∷◌, ◌++◌, length, take, drop, map, get_or, refl, sym, ap, append_assoc, append-nil}
 use Rattle.std.specs.List.{flat_map}
-use Rattle.std.proofs.lemmas.List.{map-append, map_more}
+use Rattle.std.proofs.lemmas.List.{map-append, map_more, take-map, drop-map, length-map}
 use Rattle.lt_definitions.specs.Types.{Chars, TypeTree, bool, row}
 use Rattle.lt_definitions.specs.Terms.{TermTree, application}
 use Rattle.lt_transport_definitions.specs.Notation.{WithType, ◌~◌, ◌·◌, applied}
@@ -12,7 +12,7 @@ use Rattle.lt_expressions.specs.declared.rel.RelNode.{RelNode}
 use Rattle.lt_expressions.specs.declared.rel.RelNode.TheVariants.{Var, Eq, Con}
 use Rattle.lt_expressions.specs.Layout.{arguments, grow}
 use Rattle.lt_relations.specs.declared.written.Written.{Written}
-use Rattle.lt_relations.specs.Writing.{written_told, node_written}
+use Rattle.lt_relations.specs.Writing.{written_told, node_written, applied_constant}
 use Rattle.lt_relations.proofs.PieceLemmas.{tree_over, node-grown}
 
 sides-of : (t : TermTree) (l r : TypeTree) → sides_of_relation (record { term = t; ty = l ~ r }) ≡ (l, r)
@@ -70,3 +70,32 @@ pub written-grown : (G : Registry) (before : List Relation) (n : RelNode) (made 
     → kept ≡ take (length made - arguments n) made → args ≡ drop (length made - arguments n) made → w ≡ node_written G n args
     → kept ++ w ∷ [] ≡ map (written G []) (grow before n)
 written-grown G = node-grown (written G []) (node_written G) (written-own G)
+
+-- one node's expression in the place of its arguments
+pub written-put : (G : Registry) (before : List Relation) (n : RelNode) (made kept args later : List Written) (w : Written) → map written_told made ≡ map (written G []) before
+    → kept ≡ take (length made - arguments n) made → args ≡ drop (length made - arguments n) made → written_told w ≡ node_written G n (map written_told args) → later ≡ kept ++ w ∷ []
+    → map written_told later ≡ map (written G []) (grow before n)
+written-put G before n made kept args later w e k a h l =
+    ap (map written_told) l
+    ∙ map-append written_told kept (w ∷ [])
+    ∙ written-grown G before n (map written_told made) (map written_told kept) (map written_told args) (written_told w) e
+    (ap (map written_told) k ∙ sym (take-map written_told (length made - arguments n) made) ∙ ap (λ m. take (m - arguments n) (map written_told made)) (sym (length-map made written_told)))
+    (ap (map written_told) a ∙ sym (drop-map written_told (length made - arguments n) made) ∙ ap (λ m. drop (m - arguments n) (map written_told made)) (sym (length-map made written_told)))
+    h
+
+-- a constructor's term with its type
+pub written-con : (G : Registry) (c : Chars) (ts : List TypeTree) (args : List Written) (t : TermTree) (l r : TypeTree) (ls rs : List TypeTree)
+    → t ≡ applied_constant c ts (map written_told args)
+    → ls ≡ map (λ w. w.left) args → l ≡ left_of (kind_of G c) ts (row ls)
+    → rs ≡ map (λ w. w.right) args → r ≡ right_of (kind_of G c) ts (row rs)
+    → written_told (record { term = t; left = l; right = r }) ≡ constructed_term (kind_of G c) c ts (map written_told args)
+written-con G c ts args t l r ls rs e le lh re rh =
+    let left : l ≡ left_of (kind_of G c) ts (row (map (λ r. (sides_of_relation r).0) (map written_told args))) = lh ∙ ap (λ us. left_of (kind_of G c) ts (row us)) (le ∙ sym (lefts-told args)) in
+    let right : r ≡ right_of (kind_of G c) ts (row (map (λ r. (sides_of_relation r).1) (map written_told args))) = rh ∙ ap (λ us. right_of (kind_of G c) ts (row us)) (re ∙ sym (rights-told args)) in
+    λ i. record { term = e i; ty = left i ~ right i }
+
+pub written-only : (G : Registry) (rel : Relation) (made : List Written) (w : Written) → map written_told made ≡ map (written G []) (rel ∷ []) → made ≡ w ∷ [] → written_told w ≡ written G [] rel
+written-only G rel made w e h = first-same (sym (ap (map written_told) h) ∙ e)
+  where
+    first-same : {a b : WithType} → a ∷ [] ≡ b ∷ [] → a ≡ b
+    first-same {a} {b} p = cc
