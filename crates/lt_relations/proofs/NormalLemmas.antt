@@ -2,13 +2,13 @@
 use Rattle.std.proofs.Common.{◌≡◌, ◌∙◌, ℕ, ◌+◌, ◌-◌, ◌<◌, ◌≤◌, List, [], ◌∷◌, ◌++◌, length, take, drop, map, get_or, slice_get, Option, Some, None, refl, sym, ap, arith}
 use Rattle.std.proofs.lemmas.Option.{slice_get-get_or, same_Some, none-some}
 use Rattle.std.proofs.lemmas.List.{length-map, take-map, drop-map, map-append}
-use Rattle.lt_definitions.specs.Types.{Chars, TypeTree, TypeTrees, type_variable, type_constructor, row}
+use Rattle.lt_definitions.specs.Types.{Chars, TypeTree, TypeTrees, type_variable, type_constructor, row, listed}
 use Rattle.lt_transport_definitions.specs.Relations.{Relation, relation_variable, equality, constructed, relation_row, Registry, relator_for, form_for}
-use Rattle.lt_transport_definitions.specs.Expressions.{normal_equality, normal_equalities, equality_by, normal, normals, normal_constructed}
+use Rattle.lt_transport_definitions.specs.Expressions.{normal_equality, normal_equalities, equality_by, normal, normals, normal_constructed, arguments_of}
 use Rattle.lt_types.specs.declared.ty.TyNode.{TyNode}
 use Rattle.lt_types.specs.declared.ty.TyNode.TheVariants.{Var, Con}
 use Rattle.lt_types.specs.Layout.{arguments, grow, HasRoom, forest, type_nodes, type_size}
-use Rattle.lt_types.proofs.LayoutLemmas.{step, IsStep, length-type_nodes}
+use Rattle.lt_types.proofs.LayoutLemmas.{step, IsStep, length-type_nodes, row-listed}
 use Rattle.lt_expressions.proofs.PartLemmas.{snoc-inj}
 use Rattle.lt_relations.specs.declared.pieces.RelPiece.{RelPiece}
 use Rattle.lt_relations.specs.declared.pieces.RelPiece.TheVariants.{Whole as WholeRel, Con as OverRels}
@@ -122,3 +122,25 @@ pub room-normal : (G : Registry) (before : List Relation) (n : RelNode) → HasR
 room-normal G before (RelVar m t) r = tt
 room-normal G before (RelEq t) r = tt
 room-normal G before (RelCon c ts ids) r = simp length-map r
+
+-- a form over the equalities at the arguments of a type
+pub form-made : (G : Registry) (name head : Chars) (given args : List TypeTree) (t : TypeTree) (b more : List Relation) (count : ℕ)
+    → args ≡ listed (arguments_of t) → b ≡ map (normal_equality G) args → count ≡ length args → head ≡ name → given ≡ []
+    → more ≡ joined head given count b → more ≡ constructed name [] (normal_equalities G (arguments_of t)) ∷ []
+form-made G name head given args t b more count a e k h g m =
+    m
+    ∙ ap (λ i. take i b ++ constructed head given (relation_row (drop i b)) ∷ []) none
+    ∙ (λ i. constructed (h i) (g i) ((ap relation_row e ∙ sym (equalities-row G args) ∙ ap (normal_equalities G) (ap row a ∙ row-listed (arguments_of t))) i) ∷ [])
+  where
+    none : length b - count ≡ 0
+    none = omega (arith, ap length e, length-map args (normal_equality G), k)
+
+pub form-room : (G : Registry) (args : List TypeTree) (b : List Relation) (count : ℕ) → b ≡ map (normal_equality G) args → count ≡ length args → count ≤ length b
+form-room G args b count e k = omega (arith, ap length e, length-map args (normal_equality G), k)
+
+-- the last expression makes way for another
+pub put-last : (before front builder later : List Relation) (r last form whole : Relation) → builder ≡ before ++ r ∷ [] → builder ≡ front ++ last ∷ [] → later ≡ front ++ form ∷ []
+    → (last ≡ r → form ≡ whole) → later ≡ before ++ whole ∷ []
+put-last before front builder later r last form whole e h l f =
+    let s = snoc-inj front before last r (sym h ∙ e) in
+    l ∙ (λ i. s.0 i ++ f s.1 i ∷ [])

@@ -102,8 +102,9 @@ impl Relations {
             RelNode::Var(number, ty) => Ok(builder.var(alloc, *number, ty.copy(alloc)?)?),
             RelNode::Eq(ty) => Ok(builder.rel(alloc, &self.eq_of_type(alloc, ty)?)?),
             RelNode::Con(name, types, places) => {
-                let (copy, types) = (name.copy(alloc)?, types.copy(alloc)?);
-                let builder = builder.con(alloc, copy, types, places.len())?;
+                let head = name.copy(alloc)?;
+                let given = types.copy(alloc)?;
+                let builder = builder.con(alloc, head, given, places.len())?;
                 Ok(self.as_form(builder, alloc, name)?)
             }
         }
@@ -139,7 +140,8 @@ impl Relations {
             (normal_equalities self.now (arguments_of (right self.now r))) ∷ []) }
     {
         let (builder, last) = builder.split_last(alloc)?;
-        let form = self.form_over(alloc, name, &self.right(alloc, &last)?)?;
+        let ty = self.right(alloc, &last)?;
+        let form = self.form_over(alloc, name, &ty)?;
         Ok(builder.rel(alloc, &form)?)
     }
 
@@ -149,12 +151,10 @@ impl Relations {
             ≡ constructed name.now [] (normal_equalities self.now (arguments_of ty.now))) }
     {
         let args = arguments(alloc, ty)?;
-        let count = args.len();
         let builder = self.equalities(alloc, args.as_slice())?;
-        let types = List::new(alloc);
-        builder
-            .con(alloc, name.copy(alloc)?, types, count)?
-            .finish(alloc)
+        let head = name.copy(alloc)?;
+        let whole = builder.con(alloc, head, List::new(alloc), args.len())?;
+        whole.finish(alloc)
     }
 
     /// The equalities at types.
