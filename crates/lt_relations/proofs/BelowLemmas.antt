@@ -1,6 +1,7 @@
 -- One relation below another, from the last node to the first.
-use Rattle.std.proofs.Common.{◌≡◌, ◌≢◌, ◌∙◌, ◌↔◌, ◌⊎◌, inl, inr, ℕ, zero, suc, ◌+◌, ◌-◌, ◌<◌, ◌≤◌, List, [], ◌∷◌, ◌++◌, length, take, drop, Bool, true, false, ◌&&◌, None, Some, refl, sym, ap, subst, arith, length-append}
+use Rattle.std.proofs.Common.{◌≡◌, ◌≢◌, ◌∙◌, ◌↔◌, ◌⊎◌, inl, inr, ℕ, zero, suc, ◌+◌, ◌-◌, ◌<◌, ◌≤◌, List, [], ◌∷◌, ◌++◌, length, take, drop, Bool, true, false, ◌&&◌, Option, None, Some, slice_get, get_or, refl, sym, ap, subst, arith, length-append}
 use Rattle.std.proofs.lemmas.Bool.{true≢false}
+use Rattle.std.proofs.lemmas.Option.{slice_get-get_or, same_Some}
 use Rattle.std.proofs.lemmas.List.{length-take-le, length-drop, take-append-drop}
 use Rattle.lt_definitions.specs.Types.{Chars, TypeTree, TypeTrees, type_constructor, no_types, type_and, bool}
 use Rattle.lt_definitions.proofs.SameNames.{both-true}
@@ -13,8 +14,8 @@ use Rattle.lt_expressions.specs.Layout.{relation_nodes, relation_size, grow, Has
 use Rattle.lt_expressions.specs.Parts.{HaveOneHead}
 use Rattle.lt_expressions.proofs.LayoutLemmas.{whole, length-relation_nodes}
 use Rattle.lt_expressions.proofs.PartLemmas.{snoc-inj}
-use Rattle.lt_relations.specs.BelowSteps.{before, ArePlaces, AreBelowBefore, IsBelowStep}
-use Rattle.lt_relations.proofs.PieceLemmas.{IsLast, tree_over, rest, grown}
+use Rattle.lt_relations.specs.BelowSteps.{before, ArePlaces, AreApart, AreBelowBefore, IsBelowStep}
+use Rattle.lt_relations.proofs.PieceLemmas.{IsLast, last-node, tree_over, rest, grown}
 
 -- ---- what is below has the same right type
 
@@ -204,15 +205,39 @@ step-heads G lower upper places (Con c ts ids) (Con e us js) a b h l r d = (
     head : Below G x y ↔ AreBelow G (relation_row (drop (length xs - length ids) xs)) (relation_row (drop (length ys - length js) ys))
     head = one-head G c e ts us (relation_row (drop (length xs - length ids) xs)) (relation_row (drop (length ys - length js) ys)) d.0 d.1
 
+-- a node stands before each place that isn't the first
+some-node : (rel : Relation) (end : ℕ) → 0 < end → end ≤ relation_size rel → (n : RelNode) × (slice_get (relation_nodes 0 rel) (end - 1) ≡ Some n)
+some-node rel end some within =
+    let d : RelNode = Eq bool in
+    (get_or (relation_nodes 0 rel) (end - 1) d, slice_get-get_or (relation_nodes 0 rel) (end - 1) d (omega (arith, some, within, length-relation_nodes 0 rel)))
+
 -- where the lower has an expression left, so has the upper
-pub some-upper : (lower upper : Relation) (places : ℕ × ℕ) (n : RelNode) → ArePlaces lower upper places → IsLast lower places.0 n → 0 < places.1
-some-upper lower upper places n h l = by places.1 refl
+pub some-upper : (lower upper : Relation) (places : ℕ × ℕ) → ArePlaces lower upper places → 0 < places.0 → 0 < places.1
+some-upper lower upper places h some = by places.1 refl
   where
     by : (k : ℕ) → places.1 ≡ k → 0 < places.1
     by (suc k) e = omega (arith, e)
     by zero e =
+        let node = some-node lower places.0 some h.lower_within in
+        let l : IsLast lower places.0 node.0 = last-node lower places.0 node.0 some h.lower_within node.1 in
         let front : List Relation = forest [] (take (places.0 - 1) (relation_nodes 0 lower)) in
-        absurd (omega (arith, h.count, ap length (l.next ∙ grown front n), length-append (rest front n) (tree_over front n ∷ []), ap (λ i. length (before upper i)) e))
+        absurd (omega (arith, h.count, ap length (l.next ∙ grown front node.0), length-append (rest front node.0) (tree_over front node.0 ∷ []), ap (λ i. length (before upper i)) e))
+
+pub apart-known : (lower upper : Relation) (places : ℕ × ℕ) (n m : RelNode) → slice_get (relation_nodes 0 lower) (places.0 - 1) ≡ Some n → slice_get (relation_nodes 0 upper) (places.1 - 1) ≡ Some m
+    → (HaveOneHead n m → ⊥) → AreApart lower upper places
+apart-known lower upper places n m p q d k j a b h =
+    d (subst (λ x. HaveOneHead x m) (same_Some k n (sym a ∙ p)) (subst (λ y. HaveOneHead k y) (same_Some j m (sym b ∙ q)) h))
+
+-- where the heads differ, only equality throughout is below
+pub apart-refused : (G : Registry) (lower upper : Relation) (places next : ℕ × ℕ) (x y : Relation) → 0 < places.0 → ArePlaces lower upper places → AreApart lower upper places
+    → before lower places.0 ≡ before lower next.0 ++ x ∷ [] → before upper places.1 ≡ before upper next.1 ++ y ∷ []
+    → ((right G x ≡ right G y) × (is_equality G x ≡ true) → ⊥) → IsBelowStep G lower upper places None
+apart-refused G lower upper places next x y some h a p q z =
+    let n = some-node lower places.0 some h.lower_within in
+    let up : 0 < places.1 = some-upper lower upper places h some in
+    let m = some-node upper places.1 up h.upper_within in
+    step-refused G lower upper places next x y h p q (λ b. z (apart-equality G lower upper places n.0 m.0 x y (before lower next.0) (before upper next.1)
+    (last-node lower places.0 n.0 some h.lower_within n.1) (last-node upper places.1 m.0 up h.upper_within m.1) (a n.0 m.0 n.1 m.1) p q b))
 
 -- before the first place nothing is left
 pub all-decided : (G : Registry) (lower upper : Relation) (places : ℕ × ℕ) → ArePlaces lower upper places → places.0 ≤ 0 → AreBelowBefore G lower upper places
@@ -241,3 +266,24 @@ places-first G lower upper places p q = (
 
     second : before upper places.1 ≡ upper ∷ []
     second = whole (relation_nodes 0 upper) upper places.1 refl (omega (arith, q, length-relation_nodes 0 upper)) (omega (arith, q, length-relation_nodes 0 upper))
+
+-- ---- the loop
+
+-- what is compared, and that it decides
+abbrev pub IsUnderway : Registry → Relation → Relation → ℕ × ℕ → Type 0
+IsUnderway G lower upper places = ArePlaces lower upper places × (Below G lower upper ↔ AreBelowBefore G lower upper places)
+
+pub underway-next : (G : Registry) (lower upper : Relation) (places next : ℕ × ℕ) (o : Option (ℕ × ℕ)) → o ≡ Some next → IsBelowStep G lower upper places o
+    → IsUnderway G lower upper places → IsUnderway G lower upper next × (next.0 < places.0)
+underway-next G lower upper places next o e s h =
+    let k : IsBelowStep G lower upper places (Some next) = subst (IsBelowStep G lower upper places) e s in
+    ((k.1, (λ b. k.2.0 (h.1.0 b), λ b. h.1.1 (k.2.1 b))), k.0)
+
+pub underway-refused : (G : Registry) (lower upper : Relation) (places : ℕ × ℕ) (o : Option (ℕ × ℕ)) → o ≡ None → IsBelowStep G lower upper places o
+    → IsUnderway G lower upper places → (false ≡ true) ↔ Below G lower upper
+underway-refused G lower upper places o e s h =
+    let k : IsBelowStep G lower upper places None = subst (IsBelowStep G lower upper places) e s in
+    (λ b. absurd (true≢false (sym b)), λ b. absurd (k (h.1.0 b)))
+
+pub underway-done : (G : Registry) (lower upper : Relation) (places : ℕ × ℕ) → places.0 ≤ 0 → IsUnderway G lower upper places → (true ≡ true) ↔ Below G lower upper
+underway-done G lower upper places e h = (λ b. h.1.1 (all-decided G lower upper places h.0 e), λ b. refl)

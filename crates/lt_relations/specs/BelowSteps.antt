@@ -1,8 +1,10 @@
 -- One relation below another, from the last node to the first.
-use Rattle.std.specs.Prelude.{◌≡◌, ℕ, ◌<◌, ◌≤◌, ◌↔◌, List, [], length, take, Option, None, Some}
+use Rattle.std.specs.Prelude.{◌≡◌, ℕ, ◌-◌, ◌<◌, ◌≤◌, ◌↔◌, List, [], length, take, slice_get, Option, None, Some}
 use Rattle.lt_transport_definitions.specs.Relations.{Relation, relation_row, Registry}
 use Rattle.lt_transport_definitions.specs.Below.{AreBelow}
+use Rattle.lt_expressions.specs.declared.rel.RelNode.{RelNode}
 use Rattle.lt_expressions.specs.Layout.{relation_nodes, relation_size, forest}
+use Rattle.lt_expressions.specs.Parts.{HaveOneHead}
 
 -- the expressions that the nodes before a place make
 abbrev pub before : Relation → ℕ → List Relation
@@ -26,3 +28,9 @@ IsBelowStep G lower upper places None = AreBelowBefore G lower upper places → 
 IsBelowStep G lower upper places (Some next) =
     (next.0 < places.0) × ArePlaces lower upper next
     × (AreBelowBefore G lower upper places ↔ AreBelowBefore G lower upper next)
+
+-- the last nodes before two places haven't one head
+abbrev pub AreApart : Relation → Relation → ℕ × ℕ → Type 0
+AreApart lower upper places = (n m : RelNode)
+    → slice_get (relation_nodes 0 lower) (places.0 - 1) ≡ Some n
+    → slice_get (relation_nodes 0 upper) (places.1 - 1) ≡ Some m → HaveOneHead n m → ⊥

@@ -1,11 +1,8 @@
 //! Whether one relation is below another.
-ghost use Rattle.std.specs.Prelude.{◌≡◌, ◌<◌, ◌≤◌, ◌-◌, ◌↔◌, ◌×◌, slice_get, Some, true, IfOk, IsTrue};
-ghost use Rattle.lt_expressions.specs.declared.rel.RelNode.{RelNode};
-ghost use Rattle.lt_expressions.specs.Layout.{relation_size, relation_nodes};
-ghost use Rattle.lt_expressions.specs.Parts.{HaveOneHead};
+ghost use Rattle.std.specs.Prelude.{◌≡◌, ◌<◌, ◌↔◌, true, IfOk, IsTrue};
 ghost use Rattle.lt_transport_definitions.specs.Expressions.{right, is_equality};
 ghost use Rattle.lt_transport_definitions.specs.Below.{Below};
-ghost use Rattle.lt_relations.specs.BelowSteps.{ArePlaces, IsBelowStep};
+ghost use Rattle.lt_relations.specs.BelowSteps.{ArePlaces, AreApart, IsBelowStep};
 
 use crate::relations::Relations;
 use lt_expressions::Rel;
@@ -22,10 +19,14 @@ impl Relations {
     pub fn below(&self, alloc: Global, lower: &Rel, upper: &Rel) -> Result<bool, Memory>
         ensures { IfOk result (λ b. IsTrue b ↔ Below self.now lower.now upper.now) }
     {
-        let mut places = (lower.len(), upper.len());
-        while 0 < places.0 {
-            match self.below_step(alloc, lower, upper, places)? {
-                Some(next) => places = next,
+        let mut end = lower.len();
+        let mut upper_end = upper.len();
+        while 0 < end {
+            match self.below_step(alloc, lower, upper, (end, upper_end))? {
+                Some(next) => {
+                    end = next.0;
+                    upper_end = next.1;
+                }
                 None => return Ok(false),
             }
         }
@@ -45,8 +46,9 @@ impl Relations {
         requires places { ArePlaces lower.now upper.now places }
         ensures { IfOk result (λ next. IsBelowStep self.now lower.now upper.now places next) }
     {
-        let node = lower.node(places.0 - 1);
-        if node.same_head(upper.node(places.1 - 1)) {
+        let first = lower.node(places.0 - 1);
+        let second = upper.node(places.1 - 1);
+        if first.same_head(second) {
             return Ok(Some((places.0 - 1, places.1 - 1)));
         }
         Ok(self.below_apart(alloc, lower, upper, places)?)
@@ -62,17 +64,16 @@ impl Relations {
     ) -> Result<Option<(usize, usize)>, Memory>
         requires some { 0 < places.0 }
         requires places { ArePlaces lower.now upper.now places }
-        requires apart { (n m : RelNode)
-            → slice_get (relation_nodes 0 lower.now) (places.0 - 1) ≡ Some n
-            → slice_get (relation_nodes 0 upper.now) (places.1 - 1) ≡ Some m
-            → HaveOneHead n m → ⊥ }
+        requires apart { AreApart lower.now upper.now places }
         ensures { IfOk result (λ next. IsBelowStep self.now lower.now upper.now places next) }
     {
-        let starts = (lower.start_of(places.0), upper.start_of(places.1));
-        let lower = lower.part(alloc, starts.0, places.0)?;
-        let upper = upper.part(alloc, starts.1, places.1)?;
-        if self.equality_below(alloc, &lower, &upper)? {
-            Ok(Some(starts))
+        let lower_start = lower.start_of(places.0);
+        let upper_start = upper.start_of(places.1);
+        let first = lower.part(alloc, lower_start, places.0)?;
+        let second = upper.part(alloc, upper_start, places.1)?;
+        let decided = self.equality_below(alloc, &first, &second)?;
+        if decided {
+            Ok(Some((lower_start, upper_start)))
         } else {
             Ok(None)
         }
