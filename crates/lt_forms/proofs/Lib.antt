@@ -1,0 +1,6 @@
+pub mod PartLemmas
+pub mod PartPasses
+pub mod RelationTypes
+pub mod NameLists
+pub mod SameTypes
+pub mod StatementLemmas

@@ -1,0 +1,11 @@
+use Rattle.std.proofs.Common.{◌≡◌}
+use Rattle.lt_terms.specs.Layout.{term_size}
+use Rattle.lt_transport_definitions.specs.Forms.{implied_by}
+use Rattle.lt_forms.proofs.StatementLemmas.{implied_behind}
+use Rattle.lt_forms.proofs.statements.implied_by.Given as goal
+
+abbrev pub invariant-loop : goal.invariant-loop
+invariant-loop l = implied_behind l.premises.items l.rest ≡ implied_by l.t
+
+abbrev pub decreases-loop : goal.decreases-loop
+decreases-loop l = term_size l.rest

@@ -1,0 +1,6 @@
+use Rattle.std.proofs.Common.{◌≡◌, ◌≤◌, take, length}
+use Rattle.lt_transport_definitions.specs.Reading.{opened_from}
+use Rattle.lt_forms.proofs.statements.opened_under.Given as goal
+
+abbrev pub invariant-loop : goal.invariant-loop
+invariant-loop l = (opened_from 1 (take l.at l.binders) l.t ≡ opened_from 1 l.binders l.body) × (l.at ≤ length l.binders)

@@ -1,0 +1,4 @@
+pub mod Shapes
+pub mod Constructors
+pub mod Quantifiers
+pub mod Told
