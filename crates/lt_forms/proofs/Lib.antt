@@ -4,3 +4,4 @@ pub mod RelationTypes
 pub mod NameLists
 pub mod SameTypes
 pub mod StatementLemmas
+pub mod TypeRoots
