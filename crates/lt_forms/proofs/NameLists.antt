@@ -1,8 +1,8 @@
 -- The names of a type in order, and sets that have names.
-use Rattle.std.proofs.Common.{◌≡◌, ℕ, suc, ◌+◌, ◌<◌, ◌≤◌, List, [], ◌∷◌, ◌++◌, length, drop, get_or, Bool, true, false, not, ◌&&◌, ◌||◌, if◌then◌else◌, nat_eq, refl, sym, ◌∙◌, ap, arith, append_assoc, append-nil, add-one}
+use Rattle.std.proofs.Common.{◌≡◌, ℕ, suc, ◌+◌, ◌<◌, ◌≤◌, List, [], ◌∷◌, ◌++◌, length, drop, get_or, Bool, true, false, not, ◌&&◌, ◌||◌, if◌then◌else◌, nat_eq, refl, sym, ◌∙◌, ap, arith, append_assoc, append-nil, add-one, drop_of_length-le}
 use Rattle.std.specs.List.{list_any, list_all}
 use Rattle.std.specs.Cmp.Lexicographic.{pointwise}
-use Rattle.std.proofs.Math.Seq.{drop-cons, drop_of_length-le}
+use Rattle.std.proofs.Math.Seq.{drop-cons}
 use Rattle.std.proofs.lemmas.List.Folds.{list_any-append}
 use Rattle.indexmap.specs.IndexSet.{insert_key}
 use Rattle.lt_definitions.specs.Types.{Chars, same_name, has_name, are_distinct, TypeTree, type_names}
@@ -21,7 +21,7 @@ pub names-next : (nodes : List TyNode) (i : ℕ) (n : TyNode) (names more all : 
 names-next nodes i n names more all lt at e h =
     let rest : List Chars = all_names (drop (i + 1) nodes) in
     let parts : all_names (drop i nodes) ≡ variable_names n ++ rest =
-        sym (append-nil (all_names (drop i nodes))) ∙ type-next nodes i n [] lt at ∙ ap (λ (ns : List Chars). variable_names n ++ ns) (append-nil rest) in
+    sym (append-nil (all_names (drop i nodes))) ∙ type-next nodes i n [] lt at ∙ ap (λ (ns : List Chars). variable_names n ++ ns) (append-nil rest) in
     ap (λ (ns : List Chars). ns ++ rest) e ∙ append_assoc names (variable_names n) rest ∙ ap (λ (ns : List Chars). names ++ ns) (sym parts) ∙ h
 
 pub names-last : (nodes : List TyNode) (i : ℕ) (names all : List Chars) → length nodes ≤ i → names ++ all_names (drop i nodes) ≡ all → names ≡ all

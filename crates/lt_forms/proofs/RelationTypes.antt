@@ -18,11 +18,11 @@ sided s = s.0 ~ s.1
 pub from-sides : (ty : TypeTree) (s : TypeTree × TypeTree) → relation_sides ty ≡ Some s → ty ≡ s.0 ~ s.1
 from-sides (type_constructor c (type_and from (type_and (type_constructor d (type_and to (type_and truth no_types))) no_types))) s h =
     let k = taken (same_name c (codes "fun") && same_name d (codes "fun") && same_type truth bool) (from, to) s h in
-    let ab = both-true _ _ k.0 in
-    let bc = both-true _ _ ab.1 in
+    let abc = both-true (same_name c (codes "fun") && same_name d (codes "fun")) (same_type truth bool) k.0 in
+    let ab = both-true (same_name c (codes "fun")) (same_name d (codes "fun")) abc.0 in
     let c_is : c ≡ codes "fun" = name-true c (codes "fun") ab.0 in
-    let d_is : d ≡ codes "fun" = name-true d (codes "fun") bc.0 in
-    let t_is : truth ≡ bool = type-true truth bool bc.1 in
+    let d_is : d ≡ codes "fun" = name-true d (codes "fun") ab.1 in
+    let t_is : truth ≡ bool = type-true truth bool abc.1 in
     (λ i. type_constructor (c_is i) (type_and from (type_and (type_constructor (d_is i) (type_and to (type_and (t_is i) no_types))) no_types)))
     ∙ ap sided k.1
 from-sides ty s h = absurd (none-some s h)

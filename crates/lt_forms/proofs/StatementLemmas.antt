@@ -25,7 +25,7 @@ premised p q = (p ∷ q.0, q.1)
 pub quantified-step : (t b : TermTree) (x : Chars) (ty : TypeTree) → quantifier t ≡ Some (x, (ty, b)) → quantified t ≡ bound_by x ty (quantified b)
 quantified-step (application (constant c ts) (abstraction y u d)) b x ty h = by (same_name c (codes "all")) h
   where
-    by : (all : Bool) → only_where all (y, (u, d)) ≡ Some (x, (ty, b))
+    by : (all : Bool) → only_where {A = Chars × (TypeTree × TermTree)} all (y, (u, d)) ≡ Some (x, (ty, b))
         → (if all then ((y, u) ∷ (quantified d).0, (quantified d).1) else ([], application (constant c ts) (abstraction y u d))) ≡ bound_by x ty (quantified b)
     by true e =
         let same : (y, (u, d)) ≡ (x, (ty, b)) = same_Some _ _ e in
@@ -36,7 +36,7 @@ quantified-step t b x ty h = absurd (none-some _ h)
 pub quantified-end : (t : TermTree) → quantifier t ≡ None → quantified t ≡ ([], t)
 quantified-end (application (constant c ts) (abstraction y u d)) h = by (same_name c (codes "all")) h
   where
-    by : (all : Bool) → only_where all (y, (u, d)) ≡ None
+    by : (all : Bool) → only_where {A = Chars × (TypeTree × TermTree)} all (y, (u, d)) ≡ None
         → (if all then ((y, u) ∷ (quantified d).0, (quantified d).1) else ([], application (constant c ts) (abstraction y u d))) ≡ ([], application (constant c ts) (abstraction y u d))
     by true e = absurd (none-some _ (sym e))
     by false e = refl
@@ -45,7 +45,7 @@ quantified-end t h = refl
 pub quantified-smaller : (t b : TermTree) (x : Chars) (ty : TypeTree) → quantifier t ≡ Some (x, (ty, b)) → term_size b < term_size t
 quantified-smaller (application (constant c ts) (abstraction y u d)) b x ty h = by (same_name c (codes "all")) h
   where
-    by : (all : Bool) → only_where all (y, (u, d)) ≡ Some (x, (ty, b)) → term_size b < term_size (application (constant c ts) (abstraction y u d))
+    by : (all : Bool) → only_where {A = Chars × (TypeTree × TermTree)} all (y, (u, d)) ≡ Some (x, (ty, b)) → term_size b < term_size (application (constant c ts) (abstraction y u d))
     by true e =
         let same : (y, (u, d)) ≡ (x, (ty, b)) = same_Some _ _ e in
         let body : d ≡ b = ap (λ (q : Chars × (TypeTree × TermTree)). q.1.1) same in
@@ -56,7 +56,7 @@ quantified-smaller t b x ty h = absurd (none-some _ h)
 pub implied-step : (t p q : TermTree) → implication t ≡ Some (p, q) → implied_by t ≡ premised p (implied_by q)
 implied-step (application (application (constant c ts) r) s) p q h = by (same_name c (codes "imp")) h
   where
-    by : (imp : Bool) → only_where imp (r, s) ≡ Some (p, q)
+    by : (imp : Bool) → only_where {A = TermTree × TermTree} imp (r, s) ≡ Some (p, q)
         → (if imp then (r ∷ (implied_by s).0, (implied_by s).1) else ([], application (application (constant c ts) r) s)) ≡ premised p (implied_by q)
     by true e =
         let same : (r, s) ≡ (p, q) = same_Some _ _ e in
@@ -67,7 +67,7 @@ implied-step t p q h = absurd (none-some _ h)
 pub implied-end : (t : TermTree) → implication t ≡ None → implied_by t ≡ ([], t)
 implied-end (application (application (constant c ts) r) s) h = by (same_name c (codes "imp")) h
   where
-    by : (imp : Bool) → only_where imp (r, s) ≡ None
+    by : (imp : Bool) → only_where {A = TermTree × TermTree} imp (r, s) ≡ None
         → (if imp then (r ∷ (implied_by s).0, (implied_by s).1) else ([], application (application (constant c ts) r) s)) ≡ ([], application (application (constant c ts) r) s)
     by true e = absurd (none-some _ (sym e))
     by false e = refl
@@ -76,7 +76,7 @@ implied-end t h = refl
 pub implied-smaller : (t p q : TermTree) → implication t ≡ Some (p, q) → term_size q < term_size t
 implied-smaller (application (application (constant c ts) r) s) p q h = by (same_name c (codes "imp")) h
   where
-    by : (imp : Bool) → only_where imp (r, s) ≡ Some (p, q) → term_size q < term_size (application (application (constant c ts) r) s)
+    by : (imp : Bool) → only_where {A = TermTree × TermTree} imp (r, s) ≡ Some (p, q) → term_size q < term_size (application (application (constant c ts) r) s)
     by true e =
         let same : (r, s) ≡ (p, q) = same_Some _ _ e in
         let right : s ≡ q = ap (λ (w : TermTree × TermTree). w.1) same in
@@ -123,7 +123,7 @@ pub opened-next : (ps : Binders) (at before : ℕ) (p : Chars × TypeTree) (t u 
     → u ≡ opened p.0 (free_variable (relation_name at) p.1) t → opened_from 1 (take before ps) u ≡ opened_from 1 (take at ps) t
 opened-next ps at before p t u b le g h =
     let lt : before < length ps = omega (arith, b, le) in
-    let count : 1 + length (take before ps) ≡ at = omega (arith, b, length-take-le ps before (omega (arith, lt))) in
+    let count : 1 + length (take before ps) ≡ at = omega (arith, b, length-take-le before ps (omega (arith, lt))) in
     let one : take at ps ≡ take before ps ++ p ∷ [] = ap (λ (k : ℕ). take k ps) (sym b) ∙ take_more ps before p lt ∙ ap (λ (q : Chars × TypeTree). take before ps ++ q ∷ []) (sym g) in
     ap (opened_from 1 (take before ps)) (h ∙ ap (λ (k : ℕ). opened p.0 (free_variable (relation_name k) p.1) t) (sym count))
     ∙ sym (opened-last 1 (take before ps) p t) ∙ ap (λ (qs : Binders). opened_from 1 qs t) (sym one)

@@ -11,12 +11,7 @@ use std::alloc::Global;
 
 /// Whether a constant is declared with this type, up to type names. It takes time linear in both
 /// types, where a look-up counts as one.
-pub fn is_declared_as(
-    alloc: Global,
-    sig: &Signature,
-    name: &Name,
-    ty: &Ty,
-) -> Result<bool, Memory>
+pub fn is_declared_as(alloc: Global, sig: &Signature, name: &Name, ty: &Ty) -> Result<bool, Memory>
     ensures { IfOk result (λ b. b ≡ is_declared_as sig.now name.now ty.now) }
 {
     match sig.const_type(name) {
@@ -36,12 +31,7 @@ fn is_same_type(alloc: Global, left: &Ty, right: &Ty) -> Result<bool, Memory>
 
 /// Whether a constant of the laws counts as such: it is declared with the type of the table, which
 /// is the one with which the text declares the letter `x`.
-pub fn is_counted(
-    alloc: Global,
-    sig: &Signature,
-    name: &Name,
-    types: &str,
-) -> Result<bool, Memory>
+pub fn is_counted(alloc: Global, sig: &Signature, name: &Name, types: &str) -> Result<bool, Memory>
     requires { found name.now constant_types ≡ Some (type_with types.now 120) }
     ensures { IfOk result (λ b. b ≡ is_counted sig.now name.now) }
 {

@@ -5,7 +5,7 @@ ghost use Rattle.std.specs.Option.{option_copied};
 ghost use Rattle.lt_definitions.specs.Types.{Chars, has_name, are_distinct, type_names};
 ghost use Rattle.lt_terms.specs.Numberings.{variable_names};
 ghost use Rattle.lt_transport_definitions.specs.Forms.{are_among};
-ghost use Rattle.lt_forms.specs.Constructors.{constructor_at, constructor_of};
+ghost use Rattle.lt_forms.specs.Constructors.{constructor_at, constructor_of, variable_at, variable_of};
 
 use indexmap::IndexSet;
 use lt_hol::{List, Memory, Name, Names, TryCopy, Ty, TyNode};
@@ -49,6 +49,23 @@ fn constructor_at(node: &TyNode) -> Option<&Name>
     match node {
         TyNode::Var(_) => None,
         TyNode::Con(name, _) => Some(name),
+    }
+}
+
+/// The name of a type that is a variable; None where it is a constructor's.
+pub fn variable_of(ty: &Ty) -> Option<&Name>
+    ensures { option_copied result ≡ variable_of ty.now }
+{
+    variable_at(ty.node(ty.len() - 1))
+}
+
+/// The variable of a node.
+fn variable_at(node: &TyNode) -> Option<&Name>
+    ensures { option_copied result ≡ variable_at node.now }
+{
+    match node {
+        TyNode::Var(name) => Some(name),
+        TyNode::Con(_, _) => None,
     }
 }
 

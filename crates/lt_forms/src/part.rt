@@ -1,6 +1,6 @@
 //! Parts of terms, which are read as trees.
-ghost use Rattle.std.specs.Prelude.{◌≡◌, ◌+◌, ◌∷◌, ◌++◌, [], length, IfOk};
-ghost use Rattle.lt_terms.specs.Layout.{term_of_nodes, term_size};
+ghost use Rattle.std.specs.Prelude.{◌≡◌, ℕ, ◌+◌, ◌∷◌, ◌++◌, [], length, IfOk};
+ghost use Rattle.lt_terms.specs.Layout.{term_nodes, term_of_nodes, term_size};
 ghost use Rattle.lt_forms.specs.Shapes.{IsPart, tree_of, AreSmaller};
 
 use lt_hol::{Memory, Name, Term, TermBuilder, TermNode, TryCopy, Ty, Tys};
@@ -63,6 +63,13 @@ impl<'a> Part<'a> {
         ensures { result ≡ term_size self.now }
     {
         self.nodes.len()
+    }
+
+    /// The part's nodes, children before parents; the root is the last.
+    pub fn nodes(&self) -> &'a [TermNode]
+        ensures { (from : ℕ) × (result.now ≡ term_nodes from self.now) }
+    {
+        self.nodes
     }
 
     /// What the part is made of. It takes constant time.

@@ -22,8 +22,10 @@ pub fn relation_sides(alloc: Global, ty: &Ty) -> Result<Option<(Ty, Ty)>, Memory
 
 /// What a map has for the two sides.
 fn sides_by(alloc: Global, map: &TyMap) -> Result<(Ty, Ty), Memory>
-    ensures { IfOk result (λ s. s ≡ (type_instance map.now (type_variable (codes "a")),
-        type_instance map.now (type_variable (codes "b")))) }
+    ensures { IfOk result (λ s. s ≡ (
+      type_instance map.now (type_variable (codes "a")),
+      type_instance map.now (type_variable (codes "b")),
+    )) }
 {
     let left = type_with(alloc, "", b'a')?;
     let right = type_with(alloc, "", b'b')?;

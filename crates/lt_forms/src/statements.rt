@@ -20,7 +20,7 @@ pub type BinderList = List<(Name, Ty)>;
 /// The binders of the quantifiers over abstractions with which a term begins, and what stands
 /// behind these. It takes time linear in their number.
 pub fn quantified<'a>(alloc: Global, t: Part<'a>) -> Result<(BinderList, Part<'a>), Memory>
-    ensures { IfOk result (λ q. q ≡ quantified t) }
+    ensures { IfOk result (λ q. q ≡ quantified t.entry) }
 {
     let mut binders = Vec::new(alloc);
     let mut rest = t;
@@ -72,7 +72,7 @@ pub fn is_named(t: &Part<'_>, word: &str) -> bool
 
 /// The premises of a term, and its conclusion. It takes time linear in their number.
 pub fn implied_by<'a>(alloc: Global, t: Part<'a>) -> Result<(Vec<Part<'a>>, Part<'a>), Memory>
-    ensures { IfOk result (λ q. (q.0.items, q.1) ≡ implied_by t) }
+    ensures { IfOk result (λ q. (q.0.items, q.1) ≡ implied_by t.entry) }
 {
     let mut premises = Vec::new(alloc);
     let mut rest = t;
@@ -95,7 +95,7 @@ pub fn implication<'a>(t: &Part<'a>) -> Option<(Part<'a>, Part<'a>)>
 
 /// The same of an application.
 fn implication_over<'a>(function: &Part<'a>, right: Part<'a>) -> Option<(Part<'a>, Part<'a>)>
-    ensures { result ≡ implication (application function.now right) }
+    ensures { result ≡ implication (application function.now right.entry) }
 {
     match function.shape() {
         Shape::App(head, left) => implication_from(&head, left, right),
@@ -109,7 +109,7 @@ fn implication_from<'a>(
     left: Part<'a>,
     right: Part<'a>,
 ) -> Option<(Part<'a>, Part<'a>)>
-    ensures { result ≡ implication (application (application head.now left) right) }
+    ensures { result ≡ implication (application (application head.now left.entry) right.entry) }
 {
     if is_named(head, "imp") {
         Some((left, right))

@@ -2,3 +2,5 @@ pub mod TableLemmas
 pub mod PlaceLemmas
 pub mod RegisteringLemmas
 pub mod HoldingLemmas
+pub mod ReadingLemmas
+pub mod ReadHeads

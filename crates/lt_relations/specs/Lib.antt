@@ -6,3 +6,4 @@ pub mod Registries
 pub mod Registering
 pub mod Holdings
 pub mod Reading
+pub mod RelReading

@@ -5,6 +5,7 @@ mod corr_form;
 mod entries;
 mod holdings;
 mod property_rules;
+mod reading;
 mod registering;
 mod rel_fault;
 mod relations;

@@ -6,4 +6,4 @@ pub word-requires : goal.word-requires
 word-requires c = number-is-name 65 c.args.number c.as_str.result.now refl c.ranges.number.fits (c.as_str.ensures.value ∙ c.in_ok-text.ensures.ok)
 
 pub returns : goal.returns
-returns c = c.in_ok-name.ensures ∙ number-chars 65 c.args.number c.as_str.result.now refl c.ranges.number.fits (c.as_str.ensures.value ∙ c.in_ok-text.ensures.ok)
+returns c = c.in_ok-word.ensures ∙ number-chars 65 c.args.number c.as_str.result.now refl c.ranges.number.fits (c.as_str.ensures.value ∙ c.in_ok-text.ensures.ok)
