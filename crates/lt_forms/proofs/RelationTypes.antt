@@ -39,4 +39,4 @@ unmatched pattern ty e h = by (relation_sides ty) refl
     by None q = q
     by (Some s) q =
         let m : TypeMap = (codes "a", s.0) ∷ (codes "b", s.1) ∷ [] in
-        absurd (h m (record { instance = ap (type_instance m) e ∙ sym (from-sides ty s q); domain = ap type_variables e }))
+        absurd (h m (record { instance = ap (type_instance m) e ∙ sym (from-sides ty s q); domain = sym (ap type_variables e) }))

@@ -22,6 +22,13 @@ bound_by x ty q = ((x, ty) ∷ q.0, q.1)
 abbrev premised : TermTree → List TermTree × TermTree → List TermTree × TermTree
 premised p q = (p ∷ q.0, q.1)
 
+-- a term before which nothing stands
+abbrev unbound : TermTree → Binders × TermTree
+unbound t = ([], t)
+
+abbrev unimplied : TermTree → List TermTree × TermTree
+unimplied t = ([], t)
+
 pub quantified-step : (t b : TermTree) (x : Chars) (ty : TypeTree) → quantifier t ≡ Some (x, (ty, b)) → quantified t ≡ bound_by x ty (quantified b)
 quantified-step (application (constant c ts) (abstraction y u d)) b x ty h = by (same_name c (codes "all")) h
   where
@@ -33,11 +40,11 @@ quantified-step (application (constant c ts) (abstraction y u d)) b x ty h = by 
     by false e = absurd (none-some _ e)
 quantified-step t b x ty h = absurd (none-some _ h)
 
-pub quantified-end : (t : TermTree) → quantifier t ≡ None → quantified t ≡ ([], t)
+pub quantified-end : (t : TermTree) → quantifier t ≡ None → quantified t ≡ unbound t
 quantified-end (application (constant c ts) (abstraction y u d)) h = by (same_name c (codes "all")) h
   where
     by : (all : Bool) → only_where {A = Chars × (TypeTree × TermTree)} all (y, (u, d)) ≡ None
-        → (if all then ((y, u) ∷ (quantified d).0, (quantified d).1) else ([], application (constant c ts) (abstraction y u d))) ≡ ([], application (constant c ts) (abstraction y u d))
+        → (if all then ((y, u) ∷ (quantified d).0, (quantified d).1) else ([], application (constant c ts) (abstraction y u d))) ≡ unbound (application (constant c ts) (abstraction y u d))
     by true e = absurd (none-some _ (sym e))
     by false e = refl
 quantified-end t h = refl
@@ -64,11 +71,11 @@ implied-step (application (application (constant c ts) r) s) p q h = by (same_na
     by false e = absurd (none-some _ e)
 implied-step t p q h = absurd (none-some _ h)
 
-pub implied-end : (t : TermTree) → implication t ≡ None → implied_by t ≡ ([], t)
+pub implied-end : (t : TermTree) → implication t ≡ None → implied_by t ≡ unimplied t
 implied-end (application (application (constant c ts) r) s) h = by (same_name c (codes "imp")) h
   where
     by : (imp : Bool) → only_where {A = TermTree × TermTree} imp (r, s) ≡ None
-        → (if imp then (r ∷ (implied_by s).0, (implied_by s).1) else ([], application (application (constant c ts) r) s)) ≡ ([], application (application (constant c ts) r) s)
+        → (if imp then (r ∷ (implied_by s).0, (implied_by s).1) else ([], application (application (constant c ts) r) s)) ≡ unimplied (application (application (constant c ts) r) s)
     by true e = absurd (none-some _ (sym e))
     by false e = refl
 implied-end t h = refl

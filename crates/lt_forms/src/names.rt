@@ -1,5 +1,5 @@
 //! The variables of types, and lists of names.
-ghost use Rattle.std.specs.Prelude.{◌≡◌, IfOk, OnOk, ◌++◌};
+ghost use Rattle.std.specs.Prelude.{◌≡◌, ◌&&◌, IfOk, OnOk, ◌++◌};
 ghost use Rattle.std.specs.List.{list_all};
 ghost use Rattle.std.specs.Option.{option_copied};
 ghost use Rattle.lt_definitions.specs.Types.{Chars, has_name, are_distinct, type_names};
@@ -80,9 +80,16 @@ pub fn are_distinct(alloc: Global, names: &[Name]) -> Result<bool, Memory>
     while 0 < at {
         at -= 1;
         let new = later.insert(names[at].copy(alloc)?)?;
-        distinct = new && distinct;
+        distinct = both(new, distinct);
     }
     Ok(distinct)
+}
+
+/// Whether both hold.
+fn both(left: bool, right: bool) -> bool
+    ensures { result ≡ (left && right) }
+{
+    left && right
 }
 
 /// Whether all names of the first list are in the second. It takes time linear in both, where a

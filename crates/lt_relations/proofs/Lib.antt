@@ -4,3 +4,5 @@ pub mod RegisteringLemmas
 pub mod HoldingLemmas
 pub mod ReadingLemmas
 pub mod ReadHeads
+pub mod FormLemmas
+pub mod PrefixLemmas

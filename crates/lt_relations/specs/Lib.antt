@@ -7,3 +7,4 @@ pub mod Registering
 pub mod Holdings
 pub mod Reading
 pub mod RelReading
+pub mod Prefixes

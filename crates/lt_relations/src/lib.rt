@@ -4,6 +4,7 @@
 mod corr_form;
 mod entries;
 mod holdings;
+mod prefix;
 mod property_rules;
 mod reading;
 mod registering;

@@ -9,8 +9,8 @@ ghost use Rattle.lt_relations.specs.Told.{property_name, variable_told};
 ghost use Rattle.lt_relations.specs.Prefixes.{variable_in, prefix_over};
 
 use crate::entries::RelationVariable;
-use lt_forms::{are_distinct, is_counted, relation_name, relation_sides};
-use lt_hol::{List, Memory, Name, Property, Signature, TryCopy, Ty, TyNode};
+use lt_forms::{are_distinct, is_counted, relation_name, relation_sides, variable_of};
+use lt_hol::{List, Memory, Name, Property, Signature, TryCopy, Ty};
 use std::alloc::Global;
 
 /// The relation variables of binders; None where one isn't over two type variables, or a type

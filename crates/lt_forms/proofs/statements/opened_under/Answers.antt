@@ -1,0 +1,10 @@
+use Rattle.std.proofs.Common.{◌∙◌, arith}
+use Rattle.lt_forms.proofs.StatementLemmas.{opened-next}
+use Rattle.lt_forms.proofs.statements.opened_under.Goals as goal
+
+pub loop-at-preserved : goal.loop-at-preserved
+loop-at-preserved c = (
+  opened-next c.args.binders.now c.loop-at.at _ c.index-binders-at.result c.loop-at.t c.in_ok-t.t (omega (arith, c.loop-at-test.true)) c.loop-at.invariant.1 c.index-binders-at.is
+      c.in_ok-t.ensures ∙ c.loop-at.invariant.0,
+  omega (arith, c.loop-at.invariant.1),
+)
