@@ -6,3 +6,4 @@ pub mod ReadingLemmas
 pub mod ReadHeads
 pub mod FormLemmas
 pub mod PrefixLemmas
+pub mod SideLemmas

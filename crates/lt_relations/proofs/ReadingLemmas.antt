@@ -1,8 +1,8 @@
 -- Relation terms that are read node by node are read as the definitions read them.
-use Rattle.std.proofs.Common.{◌≡◌, ℕ, suc, ◌+◌, ◌-◌, ◌<◌, ◌≤◌, List, [], ◌∷◌, ◌++◌, length, map, drop, take, get_or, position, reverse, Bool, true, false, ◌&&◌, not, cond, if◌then◌else◌, nat_eq, nat_lt, Option, Some, None, option_map, codes, refl, sym, ◌∙◌, ap, subst, arith, append_assoc, append-nil, add-one}
+use Rattle.std.proofs.Common.{◌≡◌, ℕ, suc, ◌+◌, ◌-◌, ◌<◌, ◌≤◌, List, [], ◌∷◌, ◌++◌, length, map, drop, take, get_or, position, reverse, Bool, true, false, ◌&&◌, not, cond, if◌then◌else◌, nat_eq, nat_lt, Option, Some, None, option_map, codes, refl, sym, ◌∙◌, ap, subst, arith, append_assoc, append-nil, add-one, drop_of_length-le}
 use Rattle.std.specs.List.{prefix_len}
 use Rattle.std.proofs.lemmas.List.{length-map}
-use Rattle.std.proofs.Math.Seq.{drop-cons, drop_of_length-le}
+use Rattle.std.proofs.Math.Seq.{drop-cons}
 use Rattle.std.proofs.lemmas.Option.{same_Some, none-some}
 use Rattle.lt_definitions.specs.Types.{Chars, same_name, TypeTree}
 use Rattle.lt_definitions.specs.Terms.{TermTree, free_variable, bound_name, constant, application, abstraction}
@@ -15,7 +15,8 @@ use Rattle.lt_transport_definitions.specs.Relations.{Relation, relation_variable
 use Rattle.lt_transport_definitions.specs.Reading.{right_type, variable_number, read_applied}
 use Rattle.lt_relations.specs.declared.reading.Head.{Head}
 use Rattle.lt_relations.specs.declared.reading.Head.TheVariants.{Variable, Constant}
-use Rattle.lt_relations.specs.RelReading.{Open, finished, joined_heads, read_step}
+use Rattle.lt_relations.specs.declared.reading.OpenHead.{OpenHead}
+use Rattle.lt_relations.specs.RelReading.{Open, IsRead, finished, joined_heads, read_step}
 
 module _ (sig : Signature) (G : Registry) (names : List Chars) where
   -- what is read of nodes one after another
@@ -147,3 +148,48 @@ whole-head sig G names xs e t = by-head sig G names xs e t no_relations ∙ by (
     by : (o : Option Open) → (given o λ p. finished sig G p.0 (p.1 ++ [])) ≡ (given o λ p. finished sig G p.0 p.1)
     by None = refl
     by (Some p) = ap (finished sig G p.0) (append-nil p.1)
+
+-- ---- one node after another
+
+next : {A : Type 0} (xs : List A) (i : ℕ) (x : A) → i < length xs → x ≡ get_or xs i x → drop i xs ≡ x ∷ drop (i + 1) xs
+next xs i x h e = drop-cons xs i x h ∙ ap (λ y. y ∷ drop (suc i) xs) (sym e) ∙ ap (λ k. x ∷ drop k xs) (sym (add-one i))
+
+module _ (sig : Signature) (G : Registry) (names : List Chars) where
+  abbrev all : List Open → List TermNode → Option (List Open)
+  all = read_all sig G names
+
+  stepped : (nodes : List TermNode) (i : ℕ) (n : TermNode) (before : List Open) (step : Option (List Open)) → i < length nodes → n ≡ get_or nodes i n
+      → read_step sig G names before n ≡ step → all before (drop i nodes) ≡ (given step λ after. all after (drop (i + 1) nodes))
+  stepped nodes i n before step lt at e =
+      ap (all before) (next nodes i n lt at) ∙ ap (λ (o : Option (List Open)). given o λ after. all after (drop (i + 1) nodes)) e
+
+  pub read-next : (nodes : List TermNode) (i : ℕ) (n : TermNode) (before after : List Open) (whole : Option (List Open)) → i < length nodes → n ≡ get_or nodes i n
+      → read_step sig G names before n ≡ Some after → all before (drop i nodes) ≡ whole → all after (drop (i + 1) nodes) ≡ whole
+  read-next nodes i n before after whole lt at e h = sym (stepped nodes i n before (Some after) lt at e) ∙ h
+
+  -- the whole term by what was read of its nodes
+  by-whole : (from : ℕ) (t : TermTree) (nodes : List TermNode) (xs : List RelationVariable) (o : Option (List Open)) → map (λ v. v.name) xs ≡ names
+      → nodes ≡ term_nodes from t → o ≡ all [] nodes → o ≡ option_map (λ p. p ∷ []) (head_in sig G names t)
+  by-whole from t nodes xs o e h k = k ∙ ap (all []) h ∙ read-whole sig G names from t
+
+  pub read-none : (from : ℕ) (t : TermTree) (nodes : List TermNode) (xs : List RelationVariable) (i : ℕ) (n : TermNode) (before : List Open)
+      → map (λ v. v.name) xs ≡ names → nodes ≡ term_nodes from t → i < length nodes → n ≡ get_or nodes i n
+      → read_step sig G names before n ≡ None → all before (drop i nodes) ≡ all [] nodes
+      → None ≡ read_applied sig G xs t no_relations
+  read-none from t nodes xs i n before e h lt at s k =
+      by (head_in sig G names t) (by-whole from t nodes xs None e h (sym (stepped nodes i n before None lt at s) ∙ k)) ∙ sym (whole-head sig G names xs e t)
+    where
+      by : (o : Option Open) → None ≡ option_map (λ p. p ∷ []) o → None ≡ (given o λ p. finished sig G p.0 p.1)
+      by None q = refl
+      by (Some p) q = absurd (none-some (p ∷ []) q)
+
+  pub read-end : (from : ℕ) (t : TermTree) (nodes : List TermNode) (xs : List RelationVariable) (i : ℕ) (before : List Open) (hs : List OpenHead) (args : List Relation) (o : Option Relation)
+      → map (λ v. v.name) xs ≡ names → nodes ≡ term_nodes from t → length nodes ≤ i
+      → all before (drop i nodes) ≡ all [] nodes → IsRead hs args before → ((p : Open) → IsRead hs args (p ∷ []) → o ≡ finished sig G p.0 p.1)
+      → o ≡ read_applied sig G xs t no_relations
+  read-end from t nodes xs i before hs args o e h le k r f =
+      by (head_in sig G names t) (by-whole from t nodes xs (Some before) e h (sym (ap (all before) (drop_of_length-le nodes le)) ∙ k)) ∙ sym (whole-head sig G names xs e t)
+    where
+      by : (w : Option Open) → Some before ≡ option_map (λ p. p ∷ []) w → o ≡ (given w λ p. finished sig G p.0 p.1)
+      by None q = absurd (none-some before (sym q))
+      by (Some p) q = f p (subst (λ (os : List Open). IsRead hs args os) (same_Some before (p ∷ []) q) r)

@@ -8,3 +8,4 @@ pub mod Holdings
 pub mod Reading
 pub mod RelReading
 pub mod Prefixes
+pub mod SideReading

@@ -10,6 +10,7 @@ mod reading;
 mod registering;
 mod rel_fault;
 mod relations;
+mod sides;
 mod table;
 
 pub use entries::{

@@ -11,6 +11,7 @@ ghost use Rattle.lt_transport_definitions.specs.Answers.{only_where};
 ghost use Rattle.lt_relations.specs.declared.reading.Head.TheVariants.{Variable};
 
 use crate::relations::{Kind, Relations};
+use crate::sides::number_of;
 use lt_expressions::{Rel, RelBuilder};
 use lt_forms::{Part, is_counted, relation_sides};
 use lt_hol::{List, Memory, Name, Signature, TermNode, TryCopy, Ty, Tys};
@@ -297,7 +298,7 @@ fn read_variable(
         → Follows (option_map (λ n. (Variable n (right_type ty.now), []) ∷ before)
         (position (same_name name.now) names.now)) o) }
 {
-    match names.iter().position(|other| name == other) {
+    match number_of(names, name) {
         Some(number) => {
             let head = Head::Variable(number, right_type(alloc, ty)?);
             Ok(Some(with_head(reading, head)?))
