@@ -7,3 +7,4 @@ pub mod ReadHeads
 pub mod FormLemmas
 pub mod PrefixLemmas
 pub mod SideLemmas
+pub mod HeadLemmas

@@ -73,9 +73,10 @@ module _ (sig : Signature) (G : Registry) where
   joined-some heads left last args new (o ∷ f ∷ os) e n h k =
       let r = last-read heads left last args (o ∷ f ∷ os) e h in
       let made = k r.1.0 o.1 r.1.1.0 r.1.1.1.0 in
-      let one : finished sig G o.0 o.1 ≡ Some made.0 = ap (λ (x : Head). finished sig G x o.1) (sym r.0) ∙ made.1.0 in
-      ((f.0, f.1 ++ made.0 ∷ []) ∷ os,
-      (ap (option_map (λ e. (f.0, f.1 ++ e ∷ []) ∷ os)) one, taken (reverse left) r.1.0 new f made.0 os made.1.1 r.1.1.1.1))
+      let one : finished sig G o.0 o.1 ≡ Some made.0 = ap (λ (x : Head). finished sig G x o.1) (sym r.0) ∙ made.1.0 in (
+        (f.0, f.1 ++ made.0 ∷ []) ∷ os,
+        (ap (option_map (λ e. (f.0, f.1 ++ e ∷ []) ∷ os)) one, taken (reverse left) r.1.0 new f made.0 os made.1.1 r.1.1.1.1),
+      )
     where
       taken : (hs : List OpenHead) (rest all : List Relation) (g : Open) (x : Relation) (later : List Open) → all ≡ rest ++ x ∷ [] → IsRead hs rest (g ∷ later)
           → IsRead hs all ((g.0, g.1 ++ x ∷ []) ∷ later)

@@ -9,3 +9,4 @@ pub mod Reading
 pub mod RelReading
 pub mod Prefixes
 pub mod SideReading
+pub mod HeadReading

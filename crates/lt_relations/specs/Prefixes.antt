@@ -6,7 +6,10 @@ use Rattle.lt_hol.specs.declared.property.Property.{Property}
 use Rattle.lt_hol.specs.declared.property.Property.TheVariants.{LeftTotal, RightTotal, LeftUnique, RightUnique, BiTotal, BiUnique}
 use Rattle.lt_hol.specs.declared.form_part.PropertyPart.{PropertyPart}
 use Rattle.lt_hol.specs.declared.form_part.PropertyPart.TheVariants.{Prefix, Premise, Head}
-use Rattle.lt_transport_definitions.specs.Answers.{given, only_where}
+use Rattle.lt_transport_definitions.specs.Answers.{needs, given, only_where}
+use Rattle.lt_definitions.specs.Terms.{TermTree}
+use Rattle.lt_definitions.specs.Typing.{Signature}
+use Rattle.lt_transport_definitions.specs.Forms.{implied_by, all_sides, property_of_head}
 use Rattle.lt_transport_definitions.specs.Patterns.{relation_sides}
 use Rattle.lt_transport_definitions.specs.Relations as registry
 use Rattle.lt_transport_definitions.specs.Relations.{RelationVariable, Registry}
@@ -46,6 +49,14 @@ property_known x =
     else (if same_name x (codes "left_unique") then LeftUnique
     else (if same_name x (codes "right_unique") then RightUnique
     else (if same_name x (codes "bi_total") then BiTotal else BiUnique))))
+
+-- the property rule of what a statement says of its relation variables, or the part that fails
+abbrev pub rule_behind : Signature → Registry → Chars → List RelationVariable → TermTree
+    → Result registry.PropertyRule Chars
+rule_behind sig G l xs t =
+    needs (all_sides sig xs (implied_by t).0) (codes "Premise") λ sides.
+    needs (property_of_head sig G xs (implied_by t).1) (codes "Head") λ found.
+    Ok (record { label = l; property = found.0; head = found.1.0; premises = sides })
 
 -- A rule is read, or the first part of its form that fails, or there is want of memory.
 abbrev pub IsRuleRead : Result registry.PropertyRule Chars → Result PropertyRule RelFault → Type 0

@@ -104,7 +104,11 @@ fn may_have(
     ensures { IfOk result (λ b. b ≡ may_have raw.now over.now con.now parameters.now) }
 {
     let plain = is_over(alloc, over, con, parameters)?;
-    let among = are_among(alloc, type_names(alloc, raw)?.as_slice(), parameters.as_slice())?;
+    let among = are_among(
+        alloc,
+        type_names(alloc, raw)?.as_slice(),
+        parameters.as_slice(),
+    )?;
     let function = con.is_word("fun");
     Ok(plain && !function && among)
 }

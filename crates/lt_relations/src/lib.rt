@@ -3,8 +3,10 @@
 
 mod corr_form;
 mod entries;
+mod heads;
 mod holdings;
 mod prefix;
+mod property_form;
 mod property_rules;
 mod reading;
 mod registering;
@@ -16,5 +18,6 @@ mod table;
 pub use entries::{
     Correspondence, DomainRule, Param, PropertyRule, RelationVariable, Relator, Sides,
 };
+pub use property_form::Named;
 pub use rel_fault::RelFault;
 pub use relations::{Kind, Relations, RelationsMark};

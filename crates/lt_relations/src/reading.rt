@@ -85,7 +85,7 @@ impl Relations {
             return Ok(None);
         };
         match self.finish(alloc, sig, last, args)? {
-            Some(args) => only_rel(alloc, args),
+            Some(args) => Ok(only_rel(alloc, args)?),
             None => Ok(None),
         }
     }

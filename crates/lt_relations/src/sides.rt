@@ -1,6 +1,5 @@
 //! Properties of relation variables, as statements tell them.
 ghost use Rattle.std.specs.Prelude.{◌≡◌, List, map, option_map, position, IfOk};
-
 ghost use Rattle.lt_definitions.specs.Types.{same_name};
 ghost use Rattle.lt_definitions.specs.Terms.{application};
 ghost use Rattle.lt_transport_definitions.specs.Answers.{given};
