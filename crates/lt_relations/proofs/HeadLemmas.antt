@@ -44,17 +44,17 @@ numbered-row i from [] (relation_and (relation_variable m t) rs) =
     let later : List RelNode = row_nodes (from + (below (relation_variable m t) + 1)) rs in
     ap (λ (b : Bool). b && (nat_eq i m && are_numbered (i + 1) later)) (some-none (length later))
 numbered-row i from [] (relation_and (equality t) rs) = and-none (nat_eq (length (row_nodes from (relation_and (equality t) rs))) 0)
-numbered-row i from [] (relation_and (constructed c ts as) rs) =
-    ap (λ (b : Bool). nat_eq (length (row_nodes from (relation_and (constructed c ts as) rs))) 0 && b)
-    (ap (are_numbered i) (append_assoc (row_nodes from as) (Con c ts (roots from as) ∷ []) (row_nodes (from + (below (constructed c ts as) + 1)) rs)) ∙ with-con i (row_nodes from as) c ts (roots from as) (row_nodes (from + (below (constructed c ts as) + 1)) rs))
-    ∙ and-none (nat_eq (length (row_nodes from (relation_and (constructed c ts as) rs))) 0)
+numbered-row i from [] (relation_and (constructed c ts us) rs) =
+    ap (λ (b : Bool). nat_eq (length (row_nodes from (relation_and (constructed c ts us) rs))) 0 && b)
+    (ap (are_numbered i) (append_assoc (row_nodes from us) (Con c ts (roots from us) ∷ []) (row_nodes (from + (below (constructed c ts us) + 1)) rs)) ∙ with-con i (row_nodes from us) c ts (roots from us) (row_nodes (from + (below (constructed c ts us) + 1)) rs))
+    ∙ and-none (nat_eq (length (row_nodes from (relation_and (constructed c ts us) rs))) 0)
 numbered-row i from (x ∷ xs) (relation_and (relation_variable m t) rs) =
     let later : List RelNode = row_nodes (from + (below (relation_variable m t) + 1)) rs in
     turned (nat_eq (suc (length later)) (suc (length xs))) (nat_eq i m) (are_numbered (i + 1) later)
     ∙ ap (λ (b : Bool). nat_eq i m && (b && are_numbered (i + 1) later)) (same-suc (length later) (length xs))
     ∙ ap (λ (b : Bool). nat_eq i m && b) (numbered-row (i + 1) (from + (below (relation_variable m t) + 1)) xs rs)
 numbered-row i from (x ∷ xs) (relation_and (equality t) rs) = and-none (nat_eq (length (row_nodes from (relation_and (equality t) rs))) (length (x ∷ xs)))
-numbered-row i from (x ∷ xs) (relation_and (constructed c ts as) rs) =
-    ap (λ (b : Bool). nat_eq (length (row_nodes from (relation_and (constructed c ts as) rs))) (length (x ∷ xs)) && b)
-    (ap (are_numbered i) (append_assoc (row_nodes from as) (Con c ts (roots from as) ∷ []) (row_nodes (from + (below (constructed c ts as) + 1)) rs)) ∙ with-con i (row_nodes from as) c ts (roots from as) (row_nodes (from + (below (constructed c ts as) + 1)) rs))
-    ∙ and-none (nat_eq (length (row_nodes from (relation_and (constructed c ts as) rs))) (length (x ∷ xs)))
+numbered-row i from (x ∷ xs) (relation_and (constructed c ts us) rs) =
+    ap (λ (b : Bool). nat_eq (length (row_nodes from (relation_and (constructed c ts us) rs))) (length (x ∷ xs)) && b)
+    (ap (are_numbered i) (append_assoc (row_nodes from us) (Con c ts (roots from us) ∷ []) (row_nodes (from + (below (constructed c ts us) + 1)) rs)) ∙ with-con i (row_nodes from us) c ts (roots from us) (row_nodes (from + (below (constructed c ts us) + 1)) rs))
+    ∙ and-none (nat_eq (length (row_nodes from (relation_and (constructed c ts us) rs))) (length (x ∷ xs)))
