@@ -98,3 +98,6 @@ told-next names keys more at before n copy new distinct b g c f e h =
       has = λ x. ap (has_name x) (e ∙ ap (insert_key (pointwise nat_eq) keys) c) ∙ has-inserted x n keys ∙ ap (λ (k : Bool). same_name x n || k) (h.has x) ∙ ap (has_name x) (sym one);
       told = (λ i. (f ∙ ap (λ (y : Chars). not (has_name y keys)) c ∙ ap not (h.has n)) i && h.told i) ∙ ap are_distinct (sym one);
     }
+
+pub told-end : (names keys : List Chars) (at : ℕ) (distinct : Bool) → at ≡ 0 → IsTold names keys at distinct → distinct ≡ are_distinct names
+told-end names keys at distinct e h = h.told ∙ ap (λ (k : ℕ). are_distinct (drop k names)) e
