@@ -81,7 +81,8 @@ fn correspondence_over(
         return Ok(None);
     };
     let parameters = type_names(alloc, &over)?;
-    if !may_have(alloc, &raw, &over, con, &parameters)? {
+    let formed = may_have(alloc, &raw, &over, con, &parameters)?;
+    if !formed {
         return Ok(None);
     }
     Ok(Some(Correspondence {

@@ -89,7 +89,8 @@ fn head_over(
         return Ok(None);
     }
     let names = types_names(alloc, types)?;
-    if !are_variables_of(alloc, types, &names)? {
+    let plain = are_variables_of(alloc, types, &names)?;
+    if !plain {
         return Ok(None);
     }
     Ok(Some(RuleHead {

@@ -26,10 +26,11 @@ pub(crate) fn prefix_over(
         return Ok(None);
     };
     let sides = side_names(alloc, variables.as_slice())?;
-    if are_distinct(alloc, &sides)? {
-        return Ok(Some(variables));
+    let distinct = are_distinct(alloc, &sides)?;
+    if !distinct {
+        return Ok(None);
     }
-    Ok(None)
+    Ok(Some(variables))
 }
 
 /// The type variables of relation variables, two of each.
@@ -137,8 +138,9 @@ pub(crate) fn property_of_constant(
     let Some(property) = property_named(name) else {
         return Ok(None);
     };
-    if is_counted(alloc, sig, name, "a:b:~o:>x=")? {
-        return Ok(Some(property));
+    let counted = is_counted(alloc, sig, name, "a:b:~o:>x=")?;
+    if !counted {
+        return Ok(None);
     }
-    Ok(None)
+    Ok(Some(property))
 }
