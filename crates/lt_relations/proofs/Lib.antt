@@ -8,3 +8,4 @@ pub mod FormLemmas
 pub mod PrefixLemmas
 pub mod SideLemmas
 pub mod HeadLemmas
+pub mod PropertyNames

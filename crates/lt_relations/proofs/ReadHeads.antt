@@ -83,3 +83,30 @@ module _ (sig : Signature) (G : Registry) where
       taken [] rest all g x later q w = absurd w
       taken (y ∷ hs) rest all g x later q w =
           (w.0, (w.1.0, (q ∙ ap (λ (zs : List Relation). zs ++ x ∷ []) w.1.1.0 ∙ append_assoc w.1.0 g.1 (x ∷ []), (w.1.1.1.0, w.1.1.1.1))))
+
+  -- the one head that there is
+  alone : (hs : List OpenHead) (b : List Relation) → IsRead hs b [] → b ≡ []
+  alone [] b h = h
+  alone (x ∷ hs) b h = absurd h
+
+  pub whole-empty : (heads : List OpenHead) (args : List Relation) (p : Open) → heads ≡ [] → IsRead (reverse heads) args (p ∷ []) → None ≡ finished sig G p.0 p.1
+  whole-empty heads args p e h = absurd (none-read (reverse heads) args p [] (ap reverse e) h)
+
+  pub whole-none : (heads left : List OpenHead) (last : OpenHead) (args : List Relation) (p : Open) → heads ≡ left ++ last ∷ []
+      → IsRead (reverse heads) args (p ∷ []) → Finishes last args None → None ≡ finished sig G p.0 p.1
+  whole-none heads left last args p e h k =
+      let r = last-read heads left last args (p ∷ []) e h in
+      sym (ap (λ (x : Head). finished sig G x p.1) (sym r.0) ∙ k r.1.0 p.1 r.1.1.0 r.1.1.1.0)
+
+  pub whole-some : (heads left : List OpenHead) (last : OpenHead) (args new : List Relation) (p : Open) (o : Option Relation) → heads ≡ left ++ last ∷ []
+      → IsRead (reverse heads) args (p ∷ []) → Finishes last args (Some new) → ((e : Relation) → new ≡ e ∷ [] → o ≡ Some e) → o ≡ finished sig G p.0 p.1
+  whole-some heads left last args new p o e h k f =
+      let r = last-read heads left last args (p ∷ []) e h in
+      let made = k r.1.0 p.1 r.1.1.0 r.1.1.1.0 in
+      let none : r.1.0 ≡ [] = alone (reverse left) r.1.0 r.1.1.1.1 in
+      f made.0 (made.1.1 ∙ ap (λ (b : List Relation). b ++ made.0 ∷ []) none)
+      ∙ sym (ap (λ (x : Head). finished sig G x p.1) (sym r.0) ∙ made.1.0)
+
+-- nothing was read
+pub read-first : (heads : List OpenHead) (args : List Relation) → heads ≡ [] → args ≡ [] → IsRead (reverse heads) args []
+read-first heads args e h = subst (λ (hs : List OpenHead). IsRead (reverse hs) args []) (sym e) h
