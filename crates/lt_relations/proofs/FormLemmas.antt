@@ -36,9 +36,9 @@ con-is : (over : TypeTree) (con : Chars) → constructor_of over ≡ Some con �
 con-is (type_variable a) con h = absurd (none-some con h)
 con-is (type_constructor d ts) con h = sym (same_Some d con h)
 
-pub over-some : (c name : Chars) (raw over : TypeTree) (con copy : Chars) (params : List Chars) (b : Bool) → constructor_of over ≡ Some con → params ≡ type_names over
-    → b ≡ may_have raw over con params → b ≡ true → name ≡ c → copy ≡ con → Some (told name raw copy params) ≡ correspondence_over c (raw, over)
-over-some c name raw over con copy params b h e k f n m =
+pub over-some : (c : Chars) (raw over : TypeTree) (con : Chars) (params : List Chars) (b : Bool) (d : Correspondence) → constructor_of over ≡ Some con → params ≡ type_names over
+    → b ≡ may_have raw over con params → b ≡ true → d ≡ told c raw con params → Some d ≡ correspondence_over c (raw, over)
+over-some c raw over con params b d h e k f n =
     let holds : test raw over ≡ true = sym (test-is raw over con h) ∙ ap (may_have raw over con) (sym e) ∙ sym k ∙ f in
-    (λ i. Some (told (n i) raw ((m ∙ con-is over con h) i) (e i)))
+    ap Some n ∙ (λ i. Some (told c raw (con-is over con h i) (e i)))
     ∙ sym (ap (λ (t : Bool). only_where t (told c raw (constructor_name over) (type_names over))) holds)

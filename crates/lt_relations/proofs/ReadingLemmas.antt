@@ -82,7 +82,7 @@ prefix-map : {A B : Type 0} (f : A → B) (p : B → Bool) (xs : List A) → pre
 prefix-map f p [] = refl
 prefix-map f p (v ∷ xs) = ap (λ n. cond (p (f v)) (1 + n) 0) (prefix-map f p xs)
 
-number-at : (x : Chars) (xs : List RelationVariable) → position (same_name x) (map (λ v. v.name) xs) ≡ variable_number xs x
+pub number-at : (x : Chars) (xs : List RelationVariable) → position (same_name x) (map (λ v. v.name) xs) ≡ variable_number xs x
 number-at x xs =
     let same = prefix-map (λ (v : RelationVariable). v.name) (λ y. not (same_name x y)) xs in
     (λ i. cond (nat_lt (same i) (length-map xs (λ (v : RelationVariable). v.name) i)) (Some (same i)) None)

@@ -2,13 +2,14 @@
 use Rattle.std.proofs.Common.{◌≡◌, ℕ, suc, ◌+◌, ◌<◌, ◌≤◌, List, [], ◌∷◌, ◌++◌, length, map, drop, get_or, position, Bool, Option, Some, None, option_map, refl, sym, ◌∙◌, ap, append_assoc, append-nil, add-one, drop_of_length-le}
 use Rattle.std.proofs.Math.Seq.{drop-cons}
 use Rattle.std.proofs.lemmas.Option.{same_Some, none-some}
-use Rattle.lt_definitions.specs.Types.{Chars, same_name}
+use Rattle.lt_definitions.specs.Types.{Chars, same_name, TypeTree}
 use Rattle.lt_definitions.specs.Terms.{TermTree, free_variable, bound_name, constant, application, abstraction}
 use Rattle.lt_definitions.specs.Typing.{Signature}
 use Rattle.lt_transport_definitions.specs.Answers.{given}
 use Rattle.lt_transport_definitions.specs.Relations.{RelationVariable}
 use Rattle.lt_transport_definitions.specs.Reading.{property_of_constant, property_of_variable, variable_number}
 use Rattle.lt_transport_definitions.specs.Forms.{all_sides}
+use Rattle.lt_relations.proofs.ReadingLemmas.{number-at}
 use Rattle.lt_relations.specs.SideReading.{free_name, property_and_argument}
 
 abbrev Side : Type 0
@@ -69,3 +70,9 @@ module _ (sig : Signature) (xs : List RelationVariable) where
 
   pub sides-last : (ps : List TermTree) (at : ℕ) (found : List Side) (all : Option (List Side)) → length ps ≤ at → sides_behind sig xs found (drop at ps) ≡ all → Some found ≡ all
   sides-last ps at found all le h = ap Some (sym (append-nil found)) ∙ ap (sides_behind sig xs found) (sym (drop_of_length-le ps le)) ∙ h
+
+-- the number of a free variable
+pub number-free : (xs : List RelationVariable) (names : List Chars) (x : Chars) (ty : TypeTree) (t : TermTree) (n : Option ℕ) → free_variable x ty ≡ t → map (λ v. v.name) xs ≡ names
+    → n ≡ position (same_name x) names → n ≡ given (free_name t) (variable_number xs)
+number-free xs names x ty t n e h k =
+    k ∙ ap (position (same_name x)) (sym h) ∙ number-at x xs ∙ ap (λ (u : TermTree). given (free_name u) (variable_number xs)) e

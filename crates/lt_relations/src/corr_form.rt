@@ -85,12 +85,26 @@ fn correspondence_over(
     if !formed {
         return Ok(None);
     }
-    Ok(Some(Correspondence {
+    Ok(Some(correspondence_of(alloc, name, raw, con, parameters)?))
+}
+
+/// The correspondence of these parts.
+fn correspondence_of(
+    alloc: Global,
+    name: &Name,
+    raw: Ty,
+    con: &Name,
+    parameters: Names,
+) -> Result<Correspondence, Memory>
+    ensures { IfOk result (λ d. correspondence_told d
+        ≡ record { name = name.now; raw = raw; con = con.now; parameters = parameters }) }
+{
+    Ok(Correspondence {
         name: name.copy(alloc)?,
         raw,
         con: con.copy(alloc)?,
         parameters,
-    }))
+    })
 }
 
 /// Whether a correspondence may relate these types, where the constructor and the variables of the

@@ -14,5 +14,5 @@ returns-then-not-formed c =
 
 pub returns : goal.returns
 returns c =
-    over-some c.args.name.now c.in_ok-copy.field-0 c.args.raw c.args.over c.in-Some.con.now c.in_ok-copy-2.field-0 c.in_ok-parameters.parameters c.in_ok-formed.formed
-    (sym c.constructor_of.ensures ∙ ap option_copied c.in-Some.is) c.in_ok-parameters.ensures c.in_ok-formed.ensures c.if-not-formed.false c.in_ok-copy.ensures c.in_ok-copy-2.ensures
+    over-some c.args.name.now c.args.raw c.args.over c.in-Some.con.now c.in_ok-parameters.parameters c.in_ok-formed.formed _ (sym c.constructor_of.ensures ∙ ap option_copied c.in-Some.is)
+    c.in_ok-parameters.ensures c.in_ok-formed.ensures c.if-not-formed.false c.in_ok-correspondence_of.ensures

@@ -2,7 +2,7 @@ use Rattle.std.proofs.Common.{[], reverse, refl, subst}
 use Rattle.lt_relations.specs.RelReading.{Follows, read_step}
 use Rattle.lt_relations.proofs.ReadHeads.{read-first}
 use Rattle.lt_relations.proofs.ReadingLemmas.{read_all, read-next, read-none, read-end}
-use Rattle.lt_relations.proofs.reading.Relations.read_applied.Goals as goal
+use Rattle.lt_relations.proofs.relations.Relations.read_applied.Goals as goal
 
 pub loop-node-init : goal.loop-node-init
 loop-node-init c = ([], (read-first c.new.result.items c.new-2.result c.new.ensures.items c.new-2.ensures, refl))

@@ -1,7 +1,7 @@
 use Rattle.std.proofs.Common.{◌≡◌, [], drop, reverse, List}
 use Rattle.lt_relations.specs.RelReading.{Open, IsRead}
 use Rattle.lt_relations.proofs.ReadingLemmas.{read_all}
-use Rattle.lt_relations.proofs.reading.Relations.read_applied.Given as goal
+use Rattle.lt_relations.proofs.relations.Relations.read_applied.Given as goal
 
 abbrev pub invariant-loop-node : goal.invariant-loop-node
 invariant-loop-node l =

@@ -2,7 +2,7 @@ use Rattle.std.proofs.Common.{Some, None, arith, subst}
 use Rattle.std.proofs.lemmas.Grind.{common_steps}
 use Rattle.lt_relations.specs.RelReading.{IsFinished, finished}
 use Rattle.lt_relations.proofs.ReadHeads.{whole-empty, whole-none, whole-some}
-use Rattle.lt_relations.proofs.reading.Relations.read_whole.Goals as goal
+use Rattle.lt_relations.proofs.relations.Relations.read_whole.Goals as goal
 
 pub returns-in_default : goal.returns-in_default
 returns-in_default c p h =
