@@ -46,11 +46,11 @@ module _ (sig : Signature) (G : Registry) where
   joined-single heads left last args (o ∷ []) e n h = refl
   joined-single heads left last args (o ∷ f ∷ os) e n h =
       let k = last-read heads left last args (o ∷ f ∷ os) e h in
-      absurd (at-none left n k.1.1.1.1)
+      absurd (at-none k.1.0 left n k.1.1.1.1)
     where
-      at-none : {rest : List Relation} (hs : List OpenHead) → length hs ≡ 0 → IsRead (reverse hs) rest (f ∷ os) → ⊥
-      at-none [] n k = k
-      at-none (x ∷ hs) n k = omega (arith, n)
+      at-none : (rest : List Relation) (hs : List OpenHead) → length hs ≡ 0 → IsRead (reverse hs) rest (f ∷ os) → ⊥
+      at-none rest [] n k = k
+      at-none rest (x ∷ hs) n k = omega (arith, n)
 
   -- an argument that is no expression
   pub joined-none : (heads left : List OpenHead) (last : OpenHead) (args : List Relation) (before : List Open) → heads ≡ left ++ last ∷ []

@@ -103,16 +103,16 @@ constant-any sig G xs c (t ∷ u ∷ ts) rs = refl
 pub by-head : (sig : Signature) (G : Registry) (names : List Chars) (xs : List RelationVariable) → map (λ v. v.name) xs ≡ names → (t : TermTree) (rs : Relations)
     → read_applied sig G xs t rs ≡ (given (head_in sig G names t) λ p. finished sig G p.0 (p.1 ++ relation_list rs))
 by-head sig G names xs e (free_variable x ty) no_relations =
-    by (variable_number xs x) ∙ ap (λ (o : Option ℕ). given (option_map (λ n. (Variable n (right_type ty), [])) o) λ p. finished sig G p.0 (p.1 ++ []))
+    by (variable_number xs x) ∙ ap (λ (o : Option ℕ). given {A = Open} (option_map (λ n. (Variable n (right_type ty), [])) o) λ p. finished sig G p.0 (p.1 ++ []))
     (sym (number-at x xs) ∙ ap (position (same_name x)) e)
   where
     by : (o : Option ℕ) → option_map (λ n. relation_variable n (right_type ty)) o
-        ≡ (given (option_map (λ n. (Variable n (right_type ty), [])) o) λ p. finished sig G p.0 (p.1 ++ []))
+        ≡ (given {A = Open} (option_map (λ n. (Variable n (right_type ty), [])) o) λ p. finished sig G p.0 (p.1 ++ []))
     by None = refl
     by (Some n) = refl
 by-head sig G names xs e (free_variable x ty) (relation_and r rs) = by (position (same_name x) names)
   where
-    by : (o : Option ℕ) → None ≡ (given (option_map (λ n. (Variable n (right_type ty), [])) o) λ p. finished sig G p.0 (p.1 ++ (r ∷ relation_list rs)))
+    by : (o : Option ℕ) → None ≡ (given {A = Open} (option_map (λ n. (Variable n (right_type ty), [])) o) λ p. finished sig G p.0 (p.1 ++ (r ∷ relation_list rs)))
     by None = refl
     by (Some n) = refl
 by-head sig G names xs e (bound_name x) rs = refl
