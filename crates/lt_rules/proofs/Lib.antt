@@ -1,2 +1,3 @@
 pub mod IndexLemmas
 pub mod FittingLemmas
+pub mod BaseLemmas

@@ -32,7 +32,8 @@ impl Model for RuleBase {
     ghost use Rattle.lt_types.specs.Codes.{coded_type};
     ghost use Rattle.lt_terms.specs.Codes.{coded_term};
     ghost use Rattle.lt_expressions.specs.Codes.{coded_relation};
-    ghost use Rattle.lt_rules.specs.RuleIndexes.{things, AreLabelled, IsIndex};
+    ghost use Rattle.lt_relations.specs.Tables.{AreKeyed};
+    ghost use Rattle.lt_rules.specs.RuleIndexes.{things, IsIndex};
 
     ghost Value = { List TransferRule };
 
@@ -40,7 +41,7 @@ impl Model for RuleBase {
 
     ghost view = { λ b. things b.rules.entries };
 
-    ghost invariant = { λ b. AreLabelled b.rules.entries
+    ghost invariant = { λ b. AreKeyed (λ r. r.label) b.rules.entries
         × IsIndex b.by_constant (things b.rules.entries) };
 }
 
