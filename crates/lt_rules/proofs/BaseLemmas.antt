@@ -1,5 +1,5 @@
 -- The list of all rules: one more, fewer, and those that fit.
-use Rattle.std.proofs.Common.{◌≡◌, ◌∙◌, inl, inr, ℕ, zero, suc, ◌+◌, ◌-◌, ◌<◌, ◌≤◌, List, [], ◌∷◌, ◌++◌, map, length, take, filter, slice_get, Bool, true, false, ◌&&◌, ◌||◌, not, Option, Some, None, is_some, option_map, if◌then◌else◌, refl, sym, ap, subst, arith, append-nil}
+use Rattle.std.proofs.Common.{◌≡◌, ◌∙◌, inl, inr, ℕ, zero, suc, ◌+◌, ◌-◌, ◌<◌, ◌≤◌, List, [], ◌∷◌, ◌++◌, map, length, take, filter, slice_get, Bool, true, false, ◌&&◌, Option, Some, None, is_some, option_map, if◌then◌else◌, refl, sym, ap, subst, arith, add-one}
 use Rattle.std.specs.List.{list_any}
 use Rattle.std.proofs.lemmas.Bool.{cond-true, cond-false}
 use Rattle.std.proofs.lemmas.List.{map-append, take-take, take_all, length-take-le}
@@ -71,9 +71,11 @@ fitting-of (r ∷ rules) c ts = elim (bool_cases (same_name r.constant c)) [
 -- one rule more is tried
 pub fitting-more : (ts : List TypeTree) (all : List TransferRule) (i : ℕ) (rule : TransferRule) → slice_get all i ≡ Some rule
     → filter (λ r. fits r.constant ts r) (take (i + 1) all) ≡ filter (λ r. fits r.constant ts r) (take i all) ++ (if fits rule.constant ts rule then rule ∷ [] else [])
-fitting-more ts all i rule h = ap (filter (λ r. fits r.constant ts r)) (more all i h) ∙ filter-append (λ (r : TransferRule). fits r.constant ts r) (take i all) (rule ∷ [])
+fitting-more ts all i rule h =
+    ap (λ n. filter (λ r. fits r.constant ts r) (take n all)) (add-one i) ∙ ap (filter (λ (r : TransferRule). fits r.constant ts r)) (more all i h)
+    ∙ filter-append (λ (r : TransferRule). fits r.constant ts r) (take i all) (rule ∷ [])
   where
-    more : (rules : List TransferRule) (n : ℕ) → slice_get rules n ≡ Some rule → take (n + 1) rules ≡ take n rules ++ rule ∷ []
+    more : (rules : List TransferRule) (n : ℕ) → slice_get rules n ≡ Some rule → take (suc n) rules ≡ take n rules ++ rule ∷ []
     more [] n e = absurd (none-some rule e)
     more (r ∷ rules) zero e = ap (λ (x : TransferRule). x ∷ []) (same_Some r rule e)
     more (r ∷ rules) (suc n) e = ap (λ rs. r ∷ rs) (more rules n e)

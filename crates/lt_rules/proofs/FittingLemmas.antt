@@ -1,5 +1,5 @@
 -- The map that is read off a pattern, and the one by which a rule fits.
-use Rattle.std.proofs.Common.{◌≡◌, ◌∙◌, inl, inr, List, [], ◌∷◌, ◌++◌, map, Bool, true, false, ◌&&◌, Option, Some, is_some, if◌then◌else◌, unwrap_or, refl, sym, ap, subst, append-nil, append_assoc}
+use Rattle.std.proofs.Common.{◌≡◌, ◌∙◌, inl, inr, List, [], ◌∷◌, ◌++◌, map, Bool, true, false, ◌&&◌, Option, Some, None, MatchOption, is_some, if◌then◌else◌, unwrap_or, refl, sym, ap, subst, append-nil, append_assoc}
 use Rattle.std.proofs.lemmas.Bool.{cond-true, cond-false}
 use Rattle.std.proofs.lemmas.List.{map-append}
 use Rattle.lt_definitions.specs.Types.{Chars, same_name, found, TypeTree, TypeTrees, type_variable, type_constructor, no_types, type_and, listed, row, same_types, TypeMap, type_instance, types_instance, type_names, types_names, Matches}
@@ -106,16 +106,16 @@ fit-found rule ts m h =
     let read = occurs p t m h.instance in
     let first : Matches p (firsts_behind [] (match_of rule ts)) t =
     record { instance = firsts-match p t (match_of rule ts) m read h.instance; domain = firsts-domain p t (match_of rule ts) read } in
-    let values : (a : Chars) → found a m ≡ found a (match_of rule ts) =
+    let told : (a : Chars) → found a m ≡ found a (match_of rule ts) =
     λ a. ap (found a) (match_is_one p m (firsts_behind [] (match_of rule ts)) t h first) ∙ found-firsts a [] (match_of rule ts) in
-    let instance : map (type_instance m) rule.pattern ≡ ts = listed-instance m rule.constant rule.pattern ts h.instance in
+    let made : map (type_instance m) rule.pattern ≡ ts = listed-instance m rule.constant rule.pattern ts h.instance in
     record {
       fitting = true-both (same_name rule.constant rule.constant) (same_types (row (map (type_instance (match_of rule ts)) rule.pattern)) (row ts))
           (true-name rule.constant rule.constant refl)
-          (true-row (map (type_instance (match_of rule ts)) rule.pattern) ts (sym (all-same m (match_of rule ts) values rule.pattern) ∙ instance));
-      instance = instance;
+          (true-row (map (type_instance (match_of rule ts)) rule.pattern) ts (sym (all-same m (match_of rule ts) told rule.pattern) ∙ made));
+      instance = made;
       domain = h.domain;
-      values = values;
+      values = told;
     }
 
 pub no-fit : (rule : TransferRule) (ts : List TypeTree)
@@ -128,3 +128,12 @@ no-fit rule ts h = elim (bool_cases (fits rule.constant ts rule)) [
     absurd (h some.0 (subst (λ (u : TypeTree). Matches (type_constructor rule.constant (row rule.pattern)) some.0 u) whole some.1))
   | inr f ↦ f
 ]
+
+-- what matching tells
+pub fit-told : (rule : TransferRule) (ts : List TypeTree) (p t : TypeTree) (o : Option TypeMap)
+    → p ≡ type_constructor rule.constant (row rule.pattern) → t ≡ type_constructor rule.constant (row ts)
+    → MatchOption o ((m : TypeMap) → Matches p m t → ⊥) (λ m. Matches p m t) → MatchOption o (fits rule.constant ts rule ≡ false) (IsFit rule ts)
+fit-told rule ts p t None e f h =
+    no-fit rule ts (λ m k. h m (subst (λ (u : TypeTree). Matches u m t) (sym e) (subst (λ (u : TypeTree). Matches (type_constructor rule.constant (row rule.pattern)) m u) (sym f) k)))
+fit-told rule ts p t (Some m) e f h =
+    fit-found rule ts m (subst (λ (u : TypeTree). Matches (type_constructor rule.constant (row rule.pattern)) m u) f (subst (λ (u : TypeTree). Matches u m t) e h))

@@ -1,6 +1,7 @@
 -- Lists of rules under constants that change.
-use Rattle.std.proofs.Common.{◌≡◌, ◌∙◌, inl, inr, ℕ, ◌-◌, List, [], ◌∷◌, ◌++◌, length, take, filter, Bool, true, false, Option, Some, None, unwrap_or, if◌then◌else◌, refl, sym, ap, subst, arith, nat_eq, is_some, append-nil, length-append}
+use Rattle.std.proofs.Common.{◌≡◌, ◌∙◌, inl, inr, ℕ, suc, ◌-◌, List, [], ◌∷◌, ◌++◌, length, take, filter, Bool, true, false, Option, Some, None, Result, Ok, Err, OnErr, unwrap_or, if◌then◌else◌, refl, sym, ap, subst, arith, nat_eq, append-nil}
 use Rattle.std.specs.Cmp.Lexicographic.{pointwise}
+use Rattle.std.specs.HashMap.{HashMap}
 use Rattle.std.specs.Map.{set_value}
 use Rattle.std.proofs.lemmas.Bool.{cond-true, cond-false}
 use Rattle.std.proofs.lemmas.Option.{same_Some, none-some}
@@ -92,11 +93,36 @@ agree-there x old new kept written k e w y =
     by true = refl
     by false = refl
 
+-- ---- the same beside the value that contracts see
+
+pub same-entries : {K V S : Type 0} (m n : HashMap K V S) → m ≡ n → m.entries ≡ n.entries
+same-entries {K} {V} {S} m n e = ap (λ (h : HashMap K V S). h.entries) e
+
+pub on_error : {A E P : Type 0} (r : Result A E) → P → OnErr r P
+on_error (Ok x) p = tt
+on_error (Err e) p = p
+
+pub written : {A : Type 0} (x : Chars) (change : List A → List A) (es old new : List (Chars × List A)) (kept later : List A)
+    → es ≡ old → found x es ≡ Some kept → new ≡ set_value (pointwise nat_eq x) es later → later ≡ change kept → Changes x change old new
+written {A} x change es old new kept later v k e w = subst (λ (ls : List (Chars × List A)). Changes x change ls new) v (changes-there x change es new kept later k e w)
+
+pub unwritten : {A : Type 0} (x : Chars) (es old new : List (Chars × List A)) (kept later : List A)
+    → es ≡ old → found x es ≡ Some kept → new ≡ set_value (pointwise nat_eq x) es later → later ≡ kept → Agree old new
+unwritten {A} x es old new kept later v k e w = subst (λ (ls : List (Chars × List A)). Agree ls new) v (agree-there x es new kept later k e w)
+
+pub none-written : {A : Type 0} (x : Chars) (change : List A → List A) (es old new : List (Chars × List A))
+    → es ≡ old → found x es ≡ None → new ≡ es → [] ≡ change [] → Changes x change old new
+none-written {A} x change es old new v k e w = subst (λ (ls : List (Chars × List A)). Changes x change ls new) v (changes-none x change es new k e w)
+
 -- ---- the rules of each constant
+
+one-longer : {A : Type 0} (xs : List A) (x : A) → length (xs ++ x ∷ []) ≡ suc (length xs)
+one-longer [] x = refl
+one-longer (y ∷ xs) x = ap suc (one-longer xs x)
 
 pub last-dropped : {A : Type 0} (xs : List A) (x : A) → without_last (xs ++ x ∷ []) ≡ xs
 last-dropped xs x =
-    let n : length (xs ++ x ∷ []) - 1 ≡ length xs = simp length-append (omega arith) in
+    let n : length (xs ++ x ∷ []) - 1 ≡ length xs = omega (arith, one-longer xs x) in
     ap (λ k. take k (xs ++ x ∷ [])) n ∙ take-append_seam xs (x ∷ [])
 
 -- the rules of a constant with one rule more

@@ -23,7 +23,7 @@ pub fn fits(alloc: Global, rule: &TransferRule, types: &Tys) -> Result<Option<Ty
 {
     let pattern = applied(alloc, &rule.constant, &rule.pattern)?;
     let ty = applied(alloc, &rule.constant, types)?;
-    match_type(alloc, &pattern, &ty)
+    Ok(match_type(alloc, &pattern, &ty)?)
 }
 
 /// A constant with type arguments, as a type constructor with them.

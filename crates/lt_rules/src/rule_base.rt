@@ -1,8 +1,8 @@
 //! The rules that are registered.
 ghost use Rattle.std.specs.Prelude.{◌≡◌, ◌<◌, ◌-◌, [], ◌∷◌, ◌++◌, length, take, slice_get, Some, None, false, IfOk, OnOk, OnErr};
 ghost use Rattle.lt_rules.specs.Told.{rule_told};
-ghost use Rattle.lt_rules.specs.RuleIndexes.{without_last};
-ghost use Rattle.lt_rules.specs.Registering.{rules_of, has_label, with_rule, label_fault, Registers};
+ghost use Rattle.lt_rules.specs.RuleIndexes.{rules_of, without_last};
+ghost use Rattle.lt_rules.specs.Registering.{has_label, with_rule, label_fault, Registers};
 
 use crate::rule::TransferRule;
 use crate::rule_index::RuleIndex;
@@ -160,8 +160,9 @@ impl RuleBase {
     fn drop_last(&mut self)
         ensures { self.new ≡ without_last self.old }
     {
-        if let Some((_, rule)) = self.rules.pop() {
-            self.by_constant.drop_last(&rule.rule().constant);
+        match self.rules.pop() {
+            Some((_, rule)) => self.by_constant.drop_last(&rule.rule().constant),
+            None => {}
         }
     }
 }

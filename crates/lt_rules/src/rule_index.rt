@@ -93,8 +93,9 @@ impl RuleIndex {
     pub(crate) fn drop_last(&mut self, constant: &Name)
         ensures { Changes constant.now without_last self.old self.new }
     {
-        if let Some(list) = self.lists.get_mut(constant) {
-            list.drop_last();
+        match self.lists.get_mut(constant) {
+            Some(list) => list.drop_last(),
+            None => {}
         }
     }
 }
