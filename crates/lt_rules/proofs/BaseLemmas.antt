@@ -1,18 +1,22 @@
 -- The list of all rules: one more, fewer, and those that fit.
-use Rattle.std.proofs.Common.{◌≡◌, ◌∙◌, inl, inr, ℕ, zero, suc, ◌+◌, ◌-◌, ◌<◌, ◌≤◌, List, [], ◌∷◌, ◌++◌, map, length, take, filter, slice_get, Bool, true, false, ◌&&◌, Option, Some, None, is_some, option_map, if◌then◌else◌, refl, sym, ap, subst, arith, add-one}
-use Rattle.std.specs.List.{list_any}
+use Rattle.std.proofs.Common.{◌≡◌, ◌∙◌, inl, inr, ℕ, zero, suc, ◌+◌, ◌-◌, ◌<◌, ◌≤◌, List, [], ◌∷◌, ◌++◌, map, length, take, filter, slice_get, Bool, true, false, ◌&&◌, Option, Some, None, is_some, option_map, if◌then◌else◌, refl, sym, ap, subst, arith, add-one, append-nil, nat_eq}
+use Rattle.std.specs.Cmp.Lexicographic.{pointwise}
 use Rattle.std.proofs.lemmas.Bool.{cond-true, cond-false}
 use Rattle.std.proofs.lemmas.List.{map-append, take-take, take_all, length-take-le}
 use Rattle.std.proofs.lemmas.List.Elements.{filter-append}
 use Rattle.std.proofs.lemmas.Option.{same_Some, none-some, slice_get-map}
+use Rattle.std.proofs.Math.Seq.{take-append_seam}
+use Rattle.indexmap.specs.IndexMap.{insert_entry}
 use Rattle.lt_definitions.specs.Types.{Chars, same_name, found, TypeTree, row, same_types, type_instance}
 use Rattle.lt_definitions.proofs.SameNames.{name-true, bool_cases}
 use Rattle.lt_transport_definitions.specs.RuleForm.{TransferRule}
 use Rattle.lt_transport_definitions.specs.Candidates.{match_of, fits, candidates}
 use Rattle.lt_relations.specs.Tables.{AreKeyed}
-use Rattle.lt_relations.proofs.RegisteringLemmas.{any-keyed}
-use Rattle.lt_rules.specs.RuleIndexes.{rules_of, things, without_last}
+use Rattle.lt_types.proofs.NameTables.{inserted-new}
+use Rattle.lt_relations.proofs.RegisteringLemmas.{any-keyed, keyed-grown}
+use Rattle.lt_rules.specs.RuleIndexes.{rules_of, things, without_last, Changes, Agree, IsIndex}
 use Rattle.lt_rules.specs.Registering.{has_label}
+use Rattle.lt_rules.proofs.IndexLemmas.{last-dropped, index-more, index-fewer, index-same}
 
 -- ---- the rules by their labels
 
@@ -30,6 +34,61 @@ keyed-fewer es old later e k = keyed-front es later (subst (λ (xs : List (Chars
 
 pub thing-at : {A : Type 0} (es : List (Chars × A)) (i : ℕ) (e : Chars × A) → slice_get es i ≡ Some e → slice_get (things es) i ≡ Some e.1
 thing-at es i e h = slice_get-map (λ e. e.1) es i ∙ ap (option_map (λ e. e.1)) h
+
+-- ---- one rule more
+
+pub put-entries : (es new : List (Chars × TransferRule)) (label : Chars) (copy rule : TransferRule) (now : List TransferRule)
+    → AreKeyed (λ r. r.label) es → things es ≡ now → label ≡ rule.label → copy ≡ rule → has_label now rule.label ≡ false
+    → new ≡ insert_entry (pointwise nat_eq) es label copy → new ≡ es ++ (rule.label, rule) ∷ []
+put-entries es new label copy rule now k v l c n e =
+    e ∙ inserted-new label copy es (label-found es label k ∙ ap (λ (rs : List TransferRule). has_label rs label) v ∙ ap (has_label now) l ∙ n) ∙ (λ i. es ++ (l i, c i) ∷ [])
+
+things-more : (es new : List (Chars × TransferRule)) (x : Chars) (rule : TransferRule) → new ≡ es ++ (x, rule) ∷ [] → things new ≡ things es ++ rule ∷ []
+things-more es new x rule e = ap things e ∙ map-append (λ e. e.1) es ((x, rule) ∷ [])
+
+pub put-told : (es new : List (Chars × TransferRule)) (x : Chars) (rule : TransferRule) (now : List TransferRule) → things es ≡ now → new ≡ es ++ (x, rule) ∷ [] → things new ≡ now ++ rule ∷ []
+put-told es new x rule now v e = things-more es new x rule e ∙ ap (λ rs. rs ++ rule ∷ []) v
+
+pub put-kept : (es new : List (Chars × TransferRule)) (lists later : List (Chars × List TransferRule)) (constant : Chars) (rule : TransferRule)
+    → AreKeyed (λ r. r.label) es × IsIndex lists (things es) → new ≡ es ++ (rule.label, rule) ∷ [] → constant ≡ rule.constant
+    → Changes constant (λ rs. rs ++ rule ∷ []) lists later → AreKeyed (λ r. r.label) new × IsIndex later (things new)
+put-kept es new lists later constant rule h e c change = (
+  keyed-grown (λ r. r.label) es new rule.label rule h.0 e refl,
+  subst (λ (rs : List TransferRule). IsIndex later rs) (sym (things-more es new rule.label rule e))
+      (index-more lists later (things es) rule h.1 (subst (λ (x : Chars). Changes x (λ rs. rs ++ rule ∷ []) lists later) c change)),
+)
+
+-- and it is taken back
+pub restored : {A : Type 0} (es new back : List A) (x : A) (count : ℕ) → new ≡ es ++ x ∷ [] → back ≡ take count new → count ≡ length es → back ≡ es
+restored es new back x count n b c = b ∙ ap (take count) n ∙ ap (λ k. take k (es ++ x ∷ [])) c ∙ take-append_seam es (x ∷ [])
+
+pub restored-kept : (es back : List (Chars × TransferRule)) (lists later : List (Chars × List TransferRule)) → back ≡ es
+    → AreKeyed (λ r. r.label) es × IsIndex lists (things es) → Agree lists later → AreKeyed (λ r. r.label) back × IsIndex later (things back)
+restored-kept es back lists later e h a =
+    subst (λ (bs : List (Chars × TransferRule)). AreKeyed (λ r. r.label) bs × IsIndex later (things bs)) (sym e) (h.0, index-same lists later (things es) h.1 a)
+
+-- ---- one rule fewer
+
+pub last-told : (es later : List (Chars × TransferRule)) (x : Chars) (rule : TransferRule) (now : List TransferRule) → things es ≡ now → es ≡ later ++ (x, rule) ∷ [] → things later ≡ without_last now
+last-told es later x rule now v e = sym (ap without_last (sym v ∙ things-more later es x rule e) ∙ last-dropped (things later) rule)
+
+pub last-kept : (es later : List (Chars × TransferRule)) (lists fewer : List (Chars × List TransferRule)) (x constant : Chars) (rule : TransferRule)
+    → AreKeyed (λ r. r.label) es × IsIndex lists (things es) → es ≡ later ++ (x, rule) ∷ [] → constant ≡ rule.constant → Changes constant without_last lists fewer
+    → AreKeyed (λ r. r.label) later × IsIndex fewer (things later)
+last-kept es later lists fewer x constant rule h e c change = (
+  keyed-fewer later es ((x, rule) ∷ []) e h.0,
+  index-fewer lists fewer (things later) rule (subst (λ (rs : List TransferRule). IsIndex lists rs) (things-more later es x rule e) h.1)
+      (subst (λ (y : Chars). Changes y without_last lists fewer) c change),
+)
+
+-- there was none
+pub none-told : (es later : List (Chars × TransferRule)) (now : List TransferRule) → things es ≡ now → es ≡ later ++ [] → (0 < length es → ⊥) → things later ≡ without_last now
+none-told [] later now v e n = ap things (sym (e ∙ append-nil later)) ∙ ap without_last v
+none-told (x ∷ es) later now v e n = absurd (n (omega arith))
+
+pub none-kept : (es later : List (Chars × TransferRule)) (lists : List (Chars × List TransferRule)) → es ≡ later ++ []
+    → AreKeyed (λ r. r.label) es × IsIndex lists (things es) → AreKeyed (λ r. r.label) later × IsIndex lists (things later)
+none-kept es later lists e h = subst (λ (xs : List (Chars × TransferRule)). AreKeyed (λ r. r.label) xs × IsIndex lists (things xs)) (e ∙ append-nil later) h
 
 -- ---- back to a mark
 

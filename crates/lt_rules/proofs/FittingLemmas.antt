@@ -122,10 +122,10 @@ pub no-fit : (rule : TransferRule) (ts : List TypeTree)
     → ((m : TypeMap) → Matches (type_constructor rule.constant (row rule.pattern)) m (type_constructor rule.constant (row ts)) → ⊥) → fits rule.constant ts rule ≡ false
 no-fit rule ts h = elim (bool_cases (fits rule.constant ts rule)) [
   | inl t ↦
-    let same = both-true (same_name rule.constant rule.constant) (same_types (row (map (type_instance (match_of rule ts)) rule.pattern)) (row ts)) t in
-    let whole = row-instance (match_of rule ts) rule.constant rule.pattern ts (row-true (map (type_instance (match_of rule ts)) rule.pattern) ts same.1) in
-    let some = instance_matches (type_constructor rule.constant (row rule.pattern)) (match_of rule ts) in
-    absurd (h some.0 (subst (λ (u : TypeTree). Matches (type_constructor rule.constant (row rule.pattern)) some.0 u) whole some.1))
+      let same = both-true (same_name rule.constant rule.constant) (same_types (row (map (type_instance (match_of rule ts)) rule.pattern)) (row ts)) t in
+      let whole = row-instance (match_of rule ts) rule.constant rule.pattern ts (row-true (map (type_instance (match_of rule ts)) rule.pattern) ts same.1) in
+      let some = instance_matches (type_constructor rule.constant (row rule.pattern)) (match_of rule ts) in
+      absurd (h some.0 (subst (λ (u : TypeTree). Matches (type_constructor rule.constant (row rule.pattern)) some.0 u) whole some.1))
   | inr f ↦ f
 ]
 
