@@ -17,5 +17,5 @@ loop-i-preserved c =
 pub returns : goal.returns
 returns c =
     let ts = c.args.types.now in
-    c.loop-i.invariant ∙ ap (filter (λ (r : TransferRule). fits r.constant ts r)) (take_all c.loop-i.i c.candidates-all.result.now (omega (arith, c.len.ensures, c.loop-i-test.false)) ∙ c.candidates-all.ensures)
+    c.loop-i.invariant ∙ ap (filter (λ (r : TransferRule). fits r.constant ts r)) (take_all c.loop-i.i c.candidates-all.result.now (omega (arith, c.len-i-end.ensures, c.loop-i-test.false)) ∙ c.candidates-all.ensures)
     ∙ fitting-of c.args.self.now c.args.constant.now ts
