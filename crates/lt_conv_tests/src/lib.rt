@@ -10,3 +10,5 @@ mod conversions;
 mod derivations;
 #[cfg(test)]
 mod reductions;
+#[cfg(test)]
+mod sharing;
