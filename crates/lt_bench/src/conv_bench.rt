@@ -1,34 +1,45 @@
 //! How fast a statement is brought to its beta normal form over a store that shares.
+use anyhow::{Result, bail};
 use lt_conv::normal_form;
 use lt_conv_tests::terms::{begun, put};
 use lt_shared::SharedStore;
-use lt_store::TermStore;
 use std::alloc::{AllocError, Global};
 use std::io;
 use std::rt::Clock;
 use std::test::Fail;
 use std::time::Instant;
 
-// So many implications that reduce in two steps each, and so many that are normal.
-fn statement(alloc: Global, redexes: usize, normal: usize) -> Result<String, AllocError> {
+// Adds a piece of a text so many times.
+fn repeat(text: &mut String, piece: &str, times: usize) -> Result<(), AllocError> {
+    for _ in 0..times {
+        text.push_str(piece)?;
+    }
+    Ok(())
+}
+
+// Implications whose premises reduce in two steps each, before so many that are normal.
+fn beside(alloc: Global, redexes: usize, normal: usize) -> Result<String, AllocError> {
     let mut text = String::new(alloc);
-    for _ in 0..redexes {
-        text.push_str("i#x%x^x%x^p$...")?;
-    }
-    for _ in 0..normal {
-        text.push_str("i#p$.")?;
-    }
+    repeat(&mut text, "i#x%x^x%x^p$...", redexes)?;
+    repeat(&mut text, "i#p$.", normal)?;
     text.push_str("p$")?;
-    for _ in 0..redexes {
-        text.push('.')?;
-    }
-    for _ in 0..normal {
-        text.push('.')?;
-    }
+    repeat(&mut text, ".", redexes)?;
+    repeat(&mut text, ".", normal)?;
     Ok(text)
 }
 
-// The number of the line that equates the statement with its normal form, and in how many microseconds it came.
+// Redexes, each in the body of the one around it, and implications that are normal in the last.
+fn nested(alloc: Global, redexes: usize, normal: usize) -> Result<String, AllocError> {
+    let mut text = String::new(alloc);
+    repeat(&mut text, "i#p$.", normal)?;
+    text.push_str("p$")?;
+    repeat(&mut text, ".", normal)?;
+    repeat(&mut text, "x^p$.", redexes)?;
+    Ok(text)
+}
+
+// The number of the line that equates the statement with its normal form, and in how many
+// microseconds it came.
 fn reduced<R: Clock + Alloc<A = Global>>(rt: &R, text: &str) -> Result<(usize, u128), Fail> {
     let alloc = rt.alloc();
     let mut proof = begun(alloc, SharedStore::new(alloc))?;
@@ -38,23 +49,34 @@ fn reduced<R: Clock + Alloc<A = Global>>(rt: &R, text: &str) -> Result<(usize, u
     Ok((line, start.elapsed(rt)?.as_micros()))
 }
 
+// The statement is put and, where that is asked, reduced.
+fn tell<R: Print + Clock + Alloc<A = Global>>(rt: &R, what: &str, text: &str) -> io::Result<()> {
+    match reduced(rt, text) {
+        Ok((line, micros)) => println!(rt; "{what}: line {line}, {micros} us"),
+        Err(_) => println!(rt; "{what}: no normal form"),
+    }
+}
+
 /// Four redexes.
-pub fn small<R: Print + Clock + Alloc<A = Global>>(rt: &R) -> Result<(), Fail> {
-    let (line, _) = reduced(rt, statement(rt.alloc(), 2, 1)?.as_str())?;
-    println!(rt; "conv: line {line}")?;
+pub fn small<R: Print + Clock + Alloc<A = Global>>(rt: &R) -> Result<()> {
+    let text = beside(rt.alloc(), 2, 1)?;
+    match reduced(rt, text.as_str()) {
+        Ok((line, _)) => println!(rt; "conv: line {line}")?,
+        Err(_) => bail!("no normal form"),
+    }
     Ok(())
 }
 
-/// Statements of a quarter of 65,536 nodes and 10,000 steps, of a half, and of all.
-pub fn run<R: Print + Clock + Alloc<A = Global>>(rt: &R) -> Result<(), Fail> {
-    for (redexes, normal) in [(1_250, 970), (2_500, 1_941), (5_000, 3_883)] {
-        let text = statement(rt.alloc(), redexes, normal)?;
-        let (line, micros) = reduced(rt, text.as_str())?;
-        println!(rt;
-            "normal_form, {} nodes and {} steps: line {line}, {micros} us",
-            10 * redexes + 4 * normal + 1,
-            2 * redexes
-        )?;
-    }
-    Ok(())
+/// The word is a shape, `beside` or `nested`. Each statement has 65,532 nodes, and 10,000 steps
+/// lead to its normal form.
+pub fn run<R: Print + Clock + Alloc<A = Global>>(rt: &R, words: &[String]) -> Result<()> {
+    let Some(shape) = words.first() else {
+        return small(rt);
+    };
+    let text = match shape.as_str() {
+        "beside" => beside(rt.alloc(), 5_000, 106)?,
+        "nested" => nested(rt.alloc(), 10_000, 3_106)?,
+        other => bail!("no such shape: {other}"),
+    };
+    Ok(tell(rt, shape.as_str(), text.as_str())?)
 }
