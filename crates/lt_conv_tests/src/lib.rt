@@ -2,8 +2,6 @@
 //! Terms by short texts are for benchmarks too.
 #![tactic(auto)]
 
-pub mod terms;
-
 #[cfg(test)]
 mod conversions;
 #[cfg(test)]
@@ -12,3 +10,4 @@ mod derivations;
 mod reductions;
 #[cfg(test)]
 mod sharing;
+pub mod terms;
