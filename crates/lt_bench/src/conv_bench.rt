@@ -6,7 +6,6 @@ use lt_shared::SharedStore;
 use std::alloc::{AllocError, Global};
 use std::io;
 use std::rt::Clock;
-use std::test::Fail;
 use std::time::Instant;
 
 // Adds a piece of a text so many times.
@@ -39,44 +38,45 @@ fn nested(alloc: Global, redexes: usize, normal: usize) -> Result<String, AllocE
 }
 
 // The number of the line that equates the statement with its normal form, and in how many
-// microseconds it came.
-fn reduced<R: Clock + Alloc<A = Global>>(rt: &R, text: &str) -> Result<(usize, u128), Fail> {
+// microseconds it came; None where there is no such line.
+fn reduced<R: Clock + Alloc<A = Global>>(rt: &R, text: &str) -> io::Result<Option<(usize, u128)>> {
     let alloc = rt.alloc();
-    let mut proof = begun(alloc, SharedStore::new(alloc))?;
-    let t = put(alloc, &mut proof, text)?;
+    let Ok(mut proof) = begun(alloc, SharedStore::new(alloc)) else {
+        return Ok(None);
+    };
+    let Ok(t) = put(alloc, &mut proof, text) else {
+        return Ok(None);
+    };
     let start = Instant::now(rt)?;
-    let line = normal_form(alloc, &mut proof, t)?;
-    Ok((line, start.elapsed(rt)?.as_micros()))
+    let Ok(line) = normal_form(alloc, &mut proof, t) else {
+        return Ok(None);
+    };
+    Ok(Some((line, start.elapsed(rt)?.as_micros())))
 }
 
-// The statement is put and, where that is asked, reduced.
-fn tell<R: Print + Clock + Alloc<A = Global>>(rt: &R, what: &str, text: &str) -> io::Result<()> {
-    match reduced(rt, text) {
-        Ok((line, micros)) => println!(rt; "{what}: line {line}, {micros} us"),
-        Err(_) => println!(rt; "{what}: no normal form"),
-    }
-}
-
-/// Four redexes.
-pub fn small<R: Print + Clock + Alloc<A = Global>>(rt: &R) -> Result<()> {
+/// Four steps.
+pub fn small<R: Print + Clock + Alloc<A = Global>>(rt: &R) -> io::Result<()> {
     let text = beside(rt.alloc(), 2, 1)?;
-    match reduced(rt, text.as_str()) {
-        Ok((line, _)) => println!(rt; "conv: line {line}")?,
-        Err(_) => bail!("no normal form"),
+    match reduced(rt, text.as_str())? {
+        Some((line, _)) => println!(rt; "conv: line {line}"),
+        None => println!(rt; "conv: no normal form"),
     }
-    Ok(())
 }
 
 /// The word is a shape, `beside` or `nested`. Each statement has 65,532 nodes, and 10,000 steps
 /// lead to its normal form.
 pub fn run<R: Print + Clock + Alloc<A = Global>>(rt: &R, words: &[String]) -> Result<()> {
     let Some(shape) = words.first() else {
-        return small(rt);
+        return Ok(small(rt)?);
     };
     let text = match shape.as_str() {
         "beside" => beside(rt.alloc(), 5_000, 106)?,
         "nested" => nested(rt.alloc(), 10_000, 3_106)?,
         other => bail!("no such shape: {other}"),
     };
-    Ok(tell(rt, shape.as_str(), text.as_str())?)
+    match reduced(rt, text.as_str())? {
+        Some((line, micros)) => println!(rt; "{shape}: line {line}, {micros} us")?,
+        None => println!(rt; "{shape}: no normal form")?,
+    }
+    Ok(())
 }
