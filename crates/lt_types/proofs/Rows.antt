@@ -92,10 +92,6 @@ pub roots-length : (n : ℕ) (places : List ℕ) → 0 < n → length (all_roots
 roots-length zero places h = absurd (omega (arith, h))
 roots-length (suc n) places h = length-append places (n ∷ [])
 
-pub roots-none : (nodes : List TyNode) (places : List ℕ) (made : List TypeTree) → IsRow nodes (all_roots (length nodes) places) made → length nodes ≡ 0 → made ≡ []
-roots-none nodes places [] h e = refl
-roots-none nodes places (t ∷ made) h e = absurd (omega (arith, e, ap length h.laid, length-row_nodes 0 (row (t ∷ made))))
-
 pub built-var : (nodes more_nodes : List TyNode) (places all : List ℕ) (made : List TypeTree) (name : Chars) → IsRow nodes (all_roots (length nodes) places) made → all ≡ all_roots (length nodes) places
     → more_nodes ≡ nodes ++ Var name ∷ [] → IsRow more_nodes (all_roots (length more_nodes) all) (made ++ type_variable name ∷ [])
 built-var nodes more_nodes places all made name h e q =

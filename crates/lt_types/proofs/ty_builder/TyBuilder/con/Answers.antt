@@ -1,4 +1,4 @@
-use Rattle.std.proofs.Common.{◌≡◌, ◌≤◌, ◌-◌, ◌∙◌, ◌++◌, ◌∷◌, [], ap, length, take, drop, arith, List, ℕ, subst, sym}
+use Rattle.std.proofs.Common.{◌≡◌, ◌≤◌, ◌-◌, ◌∙◌, ◌++◌, ◌∷◌, [], ap, length, take, drop, arith, List}
 use Rattle.lt_definitions.specs.Types.{TypeTree, type_constructor, row}
 use Rattle.lt_types.specs.Layout.{IsRow, forest, all_roots}
 use Rattle.lt_types.proofs.Rows.{built-con, row-reads, row-again, length-row}

@@ -1,4 +1,4 @@
-use Rattle.std.proofs.Common.{◌≡◌, ◌∙◌, ◌++◌, ◌∷◌, [], ap, length}
+use Rattle.std.proofs.Common.{◌∙◌, ◌++◌, ◌∷◌, [], ap, length}
 use Rattle.lt_definitions.specs.Types.{type_variable}
 use Rattle.lt_types.specs.Layout.{forest, all_roots, IsRow}
 use Rattle.lt_types.proofs.Rows.{built-var, row-reads, row-again}
