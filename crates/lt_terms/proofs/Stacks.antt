@@ -4,7 +4,7 @@ use Rattle.std.proofs.Math.Seq.{take-append_seam, get_or-append_seam}
 use Rattle.lt_terms.specs.declared.term.TermNode.{TermNode}
 use Rattle.lt_terms.specs.declared.term.TermNode.TheVariants.{Free, Bound, Const, App, Lam}
 use Rattle.lt_definitions.specs.Types.{Chars, TypeTree}
-use Rattle.lt_definitions.specs.Terms.{TermTree, free_variable, bound_name, constant, application, abstraction}
+use Rattle.lt_definitions.specs.Terms.{TermTree, free_variable, bound_name, constant}
 use Rattle.lt_terms.specs.Layout.{under, term_nodes, grow, applied, abstracted, IsLeaf, forest, sizes, stacked, roots, IsStack}
 use Rattle.lt_terms.proofs.LayoutLemmas.{length-term_nodes, forest-term_nodes, forest-append}
 

@@ -170,12 +170,7 @@ impl TermBuilder {
     }
 
     /// As `push_constant`, for a builder that is handed on.
-    pub fn constant(
-        self,
-        alloc: Global,
-        name: Name,
-        types: List<Ty>,
-    ) -> Result<TermBuilder, Memory>
+    pub fn constant(self, alloc: Global, name: Name, types: List<Ty>) -> Result<TermBuilder, Memory>
         ensures { IfOk result (λ b. b ≡ constant name types ∷ self) }
     {
         let mut builder = self;
