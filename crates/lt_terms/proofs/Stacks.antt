@@ -1,5 +1,5 @@
 -- Terms that lie one after another.
-use Rattle.std.proofs.Common.{◌≡◌, ℕ, zero, suc, ◌+◌, ◌≤◌, ◌<◌, List, [], ◌∷◌, ◌++◌, length, take, get_or, refl, sym, ◌∙◌, ap, subst, arith, append_assoc, append-nil, length-append}
+use Rattle.std.proofs.Common.{◌≡◌, ℕ, zero, suc, ◌+◌, ◌-◌, ◌≤◌, ◌<◌, List, [], ◌∷◌, ◌++◌, length, take, get_or, refl, sym, ◌∙◌, ap, subst, arith, append_assoc, append-nil, length-append}
 use Rattle.std.proofs.Math.Seq.{take-append_seam, get_or-append_seam}
 use Rattle.lt_terms.specs.declared.term.TermNode.{TermNode}
 use Rattle.lt_terms.specs.declared.term.TermNode.TheVariants.{Free, Bound, Const, App, Lam}
@@ -25,10 +25,6 @@ forest-stacked (t ∷ before) =
     ∙ forest-term_nodes (sizes before) t before []
 
 -- how many terms there are, by how many nodes and roots are kept
-pub stack-none : (nodes : List TermNode) (places : List ℕ) (ts : List TermTree) → IsStack nodes places ts → length nodes ≡ 0 → ts ≡ []
-stack-none nodes places [] h e = refl
-stack-none nodes places (t ∷ ts) h e = absurd (omega (arith, e, ap length h.laid, length-stacked (t ∷ ts)))
-
 pub stack-length : (nodes : List TermNode) (places : List ℕ) (ts : List TermTree) → IsStack nodes places ts → 0 < length nodes → length places + 1 ≡ length ts
 stack-length nodes places [] h e = absurd (omega (arith, e, ap length h.laid))
 stack-length nodes places (t ∷ ts) h e = omega (arith, ap length h.at, length-roots ts)
@@ -36,6 +32,10 @@ stack-length nodes places (t ∷ ts) h e = omega (arith, ap length h.at, length-
 pub stack-some : (nodes : List TermNode) (places : List ℕ) (ts : List TermTree) → IsStack nodes places ts → 1 ≤ length ts → 0 < length nodes
 stack-some nodes places [] h e = absurd (omega (arith, e))
 stack-some nodes places (t ∷ ts) h e = omega (arith, ap length h.laid, length-stacked (t ∷ ts))
+
+pub stack-two : (nodes : List TermNode) (places : List ℕ) (ts : List TermTree) → IsStack nodes places ts → 2 ≤ length ts → 1 ≤ length places
+stack-two nodes places [] h e = absurd (omega (arith, e))
+stack-two nodes places (t ∷ ts) h e = omega (arith, e, ap length h.at, length-roots ts)
 
 pub stack-reads : (nodes : List TermNode) (places : List ℕ) (ts : List TermTree) → IsStack nodes places ts → forest [] nodes ≡ ts
 stack-reads nodes places ts h = ap (forest []) h.laid ∙ forest-stacked ts
@@ -86,6 +86,12 @@ pub next-leaf : (nodes more_nodes : List TermNode) (places more_places : List �
 next-leaf nodes more_nodes places more_places ts node n l h e p q = stack-leaf nodes more_nodes places more_places ts node (suc n) l h (omega (arith, e)) p q
 
 -- ---- the last terms become parts of another
+
+-- the last place
+pub last-root : (places kept : List ℕ) (r f k : ℕ) → places ≡ kept ++ r ∷ [] → k ≡ length places → f ≡ get_or places (k - 1) f → f ≡ r
+last-root places kept r f k h c e =
+    let at : k - 1 ≡ length kept = omega (arith, c, ap length h, length-append kept (r ∷ [])) in
+    e ∙ (λ i. get_or (h i) (at i) f) ∙ get_or-append_seam kept r [] f
 
 pub stack-app : (nodes more_nodes : List TermNode) (places more_places : List ℕ) (ts : List TermTree) (f n : ℕ) → IsStack nodes places ts → 2 ≤ length ts → n + 1 ≡ length nodes
     → places ≡ more_places ++ f ∷ [] → more_nodes ≡ nodes ++ App f n ∷ [] → IsStack more_nodes more_places (applied ts)
