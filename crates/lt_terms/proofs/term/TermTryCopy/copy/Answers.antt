@@ -1,3 +1,4 @@
+use Rattle.std.proofs.Common.{◌∙◌}
 use Rattle.lt_terms.proofs.LayoutLemmas.{copied-more, copied-laid, copied-whole}
 use Rattle.lt_terms.proofs.term.TermTryCopy.copy.Goals as goal
 
