@@ -2,5 +2,6 @@
 pub mod Layers
 pub mod Runs
 pub mod Resolved
+pub mod OwningLemmas
 pub mod TableLemmas
 pub mod WalkLemmas

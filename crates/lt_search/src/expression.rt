@@ -22,7 +22,7 @@ pub enum Expression {
 }
 
 /// The head of a constructor over other arguments.
-fn constructed(
+pub(crate) fn constructed(
     alloc: Global,
     name: &Name,
     types: &Tys,

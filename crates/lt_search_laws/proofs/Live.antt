@@ -144,7 +144,7 @@ module _ (q : Question) (prefix : List ℕ) (K : ChosenStatement) (top : Option 
       let s = given_or d (vs ++ ws) in
       let g = given_or-gives d (vs ++ ws) in
       let r = corresponds-solved G q.signature s numbered_variable numbered-ok 0 (first_slot K) [] [] K v.assignment v.expression refl proper v.assigned v.corresponds
-          (gives-left s 0 vs ws g) (gives-right s 0 (first_slot K) vs ws (omega arith) g) in
+      (gives-left s 0 vs ws g) (gives-right s 0 (first_slot K) vs ws (omega arith) g) in
       record {
         by = s;
         fits = given-fits G posed.registry τ (vs ++ ws) (fit-append G τ 0 (first_slot K) vs ws (omega arith) f.each f.picked);

@@ -237,7 +237,7 @@ corresponds-solved G S s var ok k m names us (chosen_application f a) v e p w z 
     let last : Gives s n (e ∷ []) = gives-right s c n as' (e ∷ []) (omega arith) rest in
     let t = ok s n ∙ last.0 in
     let x = corresponds-solved G S s var ok k (m + rule_slots a) names us f v.0 (function_relator h.0 e) p w.0 z.0 h.2 (gives-left s k fs (as' ++ e ∷ []) g)
-        (gives-right s m (m + rule_slots a) (rule_values a v.1) (rule_values f v.0) (omega arith) o) in
+    (gives-right s m (m + rule_slots a) (rule_values a v.1) (rule_values f v.0) (omega arith) o) in
     let y = corresponds-solved G S s var ok c m names us a v.1 h.0 p w.1 z.1 h.1 (gives-left s c as' (e ∷ []) rest) (gives-left s m (rule_values a v.1) (rule_values f v.0) o) in
     record {
       reads = (λ i. (x.reads i, y.reads i));

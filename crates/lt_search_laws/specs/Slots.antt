@@ -133,5 +133,5 @@ LeastByEquality = (q : Question) (prefix : List ℕ) (K : ChosenStatement) (top 
 
 -- A typed statement has types for its numbered variables.
 abbrev pub SlotsAreThere : Type 0
-SlotsAreThere = (sig : Signature) (K : ChosenStatement) (ty : TypeTree) → HasType sig [] (statement_of K) ty 
+SlotsAreThere = (sig : Signature) (K : ChosenStatement) (ty : TypeTree) → HasType sig [] (statement_of K) ty
     → (τ : ℕ → TypeTree) × HasNodes sig τ 0 [] (statement_of K) ty × HasChoices τ (first_slot K) K
