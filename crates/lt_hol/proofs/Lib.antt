@@ -4,6 +4,7 @@ pub mod NodeEquality
 pub mod AddedTypes
 pub mod DistinctTypes
 pub mod TypeNumbers
+pub mod RecentTypes
 pub mod VariableNames
 pub mod ReadTypes
 pub mod SharedTrees

@@ -8,13 +8,15 @@ use Rattle.std.proofs.lemmas.Option.{slice_get_within, get_or_from_slice_get, sl
 use Rattle.lt_types.specs.declared.ty.TyNode.{TyNode}
 use Rattle.lt_types.specs.declared.ty.TyNode.TheVariants.{Var, Con}
 use Rattle.lt_types.specs.Layout.{grow}
+use Rattle.lt_hol.specs.declared.recent_types.RecentType.{RecentType}
 use Rattle.lt_definitions.specs.Types.{Chars, same_name, TypeTree, type_variable, type_constructor, row}
 use Rattle.lt_definitions.proofs.SameNames.{both-true, true-both}
-use Rattle.lt_hol.specs.TypeTables.{type_at, types_at, made_of, all_below, is_below, IsTable, Extends, function_parts, node_parts, both}
+use Rattle.lt_hol.specs.TypeTables.{type_at, types_at, made_of, all_below, is_below, IsTable, AreRecent, Extends, function_parts, node_parts, both}
 use Rattle.lt_hol.proofs.DistinctTypes.{types_at-more, all-more}
 
-pub empty-table : (ns : List TyNode) (name : Chars) → ns ≡ [] → name ≡ codes "fun" → IsTable ns name
-empty-table ns name e n = subst (λ ms. IsTable ms name) (sym e) (record { grounded = tt; apart = λ i j h k. absurd (omega (arith, h)); named = n })
+pub empty-table : (ns : List TyNode) (name : Chars) (kept : List RecentType) → ns ≡ [] → name ≡ codes "fun" → kept ≡ [] → IsTable ns name kept
+empty-table ns name kept e n k =
+    subst (λ ms. IsTable ms name kept) (sym e) (record { grounded = tt; apart = λ i j h k. absurd (omega (arith, h)); named = n; recent = subst (AreRecent []) (sym k) tt })
 
 -- ---- the parts of a type of functions
 

@@ -1,9 +1,10 @@
 -- Types by number: a table of nodes whose arguments are numbers of the table.
 pub use Rattle.lt_types.specs.FunctionTypes.{function_parts}
-use Rattle.std.specs.Prelude.{◌≡◌, ℕ, suc, ◌<◌, List, [], ◌∷◌, ◌++◌, length, map, slice_index_or, Bool, true, false, ◌||◌, nat_lt, Option, Some, None, codes, if◌then◌else◌}
+use Rattle.std.specs.Prelude.{◌≡◌, ℕ, suc, ◌<◌, List, [], ◌∷◌, ◌++◌, length, map, slice_get, slice_index_or, Bool, true, false, ◌||◌, nat_lt, Option, Some, None, codes, if◌then◌else◌}
 use Rattle.std.specs.List.{list_all}
 use Rattle.lt_types.specs.declared.ty.TyNode.{TyNode}
 use Rattle.lt_types.specs.declared.ty.TyNode.TheVariants.{Var, Con}
+use Rattle.lt_hol.specs.declared.recent_types.RecentType.{RecentType}
 use Rattle.lt_definitions.specs.Types.{Chars, same_name, same_type, TypeTree, TypeTrees, type_variable, type_constructor, no_types, type_and, row}
 
 -- the type of a number, and those of numbers
@@ -41,10 +42,16 @@ IsGrounded n (m ∷ ns) = (is_below n m ≡ true) × IsGrounded (suc n) ns
 abbrev pub IsApart : List TypeTree → Type 0
 IsApart ts = (i j : ℕ) → i < length ts → j < length ts → type_at ts i ≡ type_at ts j → i ≡ j
 
-pub record IsTable (nodes : List TyNode) (name : Chars) : Type 0 where
+-- Each type has the number that is kept beside it.
+abbrev pub AreRecent : List TypeTree → List RecentType → Type 0
+AreRecent ts [] = Unit {0}
+AreRecent ts (k ∷ ks) = (slice_get ts k.id ≡ Some k.ty) × AreRecent ts ks
+
+pub record IsTable (nodes : List TyNode) (name : Chars) (kept : List RecentType) : Type 0 where
   pub grounded : IsGrounded 0 nodes
   pub apart : IsApart (types_after [] nodes)
   pub named : name ≡ codes "fun"
+  pub recent : AreRecent (types_after [] nodes) kept
 
 -- The types stay, and others may follow.
 pub record Extends (old new : List TypeTree) : Type 0 where

@@ -20,7 +20,7 @@ pub(crate) fn bound_types(
 {
     let types = lam_types(alloc, table, t.nodes())?;
     let found = binders(alloc, t)?;
-    let mut hints = Vec::new(alloc);
+    let mut hints = Vec::with_capacity(alloc, found.len())?;
     for binder in &found {
         hints.push(at_binder(types.as_slice(), *binder))?;
     }
@@ -36,7 +36,7 @@ fn lam_types(
     ensures hints { IfOk result (λ v. AreHints table.new v.items (map binder_type nodes.now)) }
     ensures grows { Extends table.old table.new }
 {
-    let mut types = Vec::new(alloc);
+    let mut types = Vec::with_capacity(alloc, nodes.len())?;
     for node in nodes {
         let ty = binder_type(alloc, table, node)?;
         types.push(ty)?;

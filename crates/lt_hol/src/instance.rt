@@ -37,6 +37,9 @@ impl TypeTable {
         if variables.len() != args.len() {
             return Ok(None);
         }
+        if variables.is_empty() {
+            return Ok(Some(self.intern(alloc, declared)?));
+        }
         Ok(Some(self.put_instance(alloc, declared, &variables, args)?))
     }
 

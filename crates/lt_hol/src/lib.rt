@@ -12,6 +12,7 @@ mod lines;
 mod outcome;
 mod property;
 mod read_type;
+mod recent_types;
 mod shared_nodes;
 mod signature;
 mod type_fault;

@@ -1,24 +1,31 @@
 //! Types by number.
-ghost use Rattle.std.specs.Prelude.{◌≡◌, ◌<◌, ◌↔◌, [], ◌∷◌, ◌++◌, length, true, slice_get, Some, IsTrue, IfOk, IfSome};
+ghost use Rattle.std.specs.Prelude.{◌≡◌, ◌<◌, ◌↔◌, [], ◌∷◌, ◌++◌, List as ListOf, length, true, slice_get, Some, IsTrue, IfOk, IfSome};
 ghost use Rattle.std.specs.Option.{option_map};
 ghost use Rattle.lt_definitions.specs.Types.{fun};
 ghost use Rattle.lt_types.specs.Layout.{HasRoom, grow};
-ghost use Rattle.lt_hol.specs.TypeTables.{type_at, types_at, made_of, all_below, is_below, Extends, ExtendsBy, IsApart, function_parts, node_parts, both};
+ghost use Rattle.lt_definitions.specs.Types.{TypeTree};
+ghost use Rattle.lt_hol.specs.TypeTables.{type_at, types_at, made_of, all_below, is_below, AreRecent, Extends, ExtendsBy, IsApart, function_parts, node_parts, both};
 
+use crate::recent_types::RecentType;
 use indexmap::IndexSet;
 use lt_types::{List, Memory, Name, TryCopy, Ty, TyNode};
 use std::alloc::Global;
 use std::marker::Model;
 
+/// How many types are looked for among those whose numbers are kept.
+const MOST_RECENT: usize = 8;
+
 /// Distinct types, which contracts see as a list. A type's number is its place in the list.
 ///
 /// Two types of one table are equal exactly where their numbers are.
 /// A call that wants memory may leave types behind that it made on the way; those that were there
-/// stay.
+/// stay. The numbers of the first few types that were looked for are kept, so that a term in which
+/// one type stands many times doesn't make it anew each time.
 #[derive(Debug, Drop)]
 pub struct TypeTable {
     nodes: IndexSet<TyNode>,
     fun: Name,
+    recent: Vec<RecentType>,
 }
 
 impl Model for TypeTable {
@@ -35,7 +42,7 @@ impl Model for TypeTable {
 
     ghost view = { λ t. types_after [] t.nodes.keys };
 
-    ghost invariant = { λ t. IsTable t.nodes.keys t.fun };
+    ghost invariant = { λ t. IsTable t.nodes.keys t.fun t.recent.items };
 }
 
 impl TypeTable {
@@ -43,9 +50,11 @@ impl TypeTable {
     pub fn new(alloc: Global) -> Result<TypeTable, Memory>
         ensures { IfOk result (λ t. t ≡ []) }
     {
+        let recent = Vec::new(alloc);
         Ok(TypeTable {
             nodes: IndexSet::new(alloc),
             fun: Name::word(alloc, "fun")?,
+            recent,
         })
     }
 
@@ -151,12 +160,69 @@ impl TypeTable {
         ensures grows { Extends self.old self.new }
         ensures added { IfOk result (λ _. ExtendsBy (ty.now ∷ []) self.old self.new) }
     {
+        match self.recent_number(ty) {
+            Some(id) => Ok(id),
+            None => Ok(self.intern_new(alloc, ty)?),
+        }
+    }
+
+    /// The number of a type, if it is among those that are kept.
+    fn recent_number(&self, ty: &Ty) -> Option<usize>
+        ensures { IfSome result (λ id. slice_get self.now id ≡ Some ty.now) }
+    {
+        let _ = &self.nodes;
+        find_recent(self.recent.as_slice(), ty)
+    }
+
+    /// The number of a type, which is kept if there is room.
+    fn intern_new(&mut self, alloc: Global, ty: &Ty) -> Result<usize, Memory>
+        ensures ok { IfOk result (λ id. slice_get self.new id ≡ Some ty.now) }
+        ensures grows { Extends self.old self.new }
+        ensures added { IfOk result (λ _. ExtendsBy (ty.now ∷ []) self.old self.new) }
+    {
+        let id = self.intern_nodes(alloc, ty)?;
+        self.keep(alloc, ty, id)?;
+        Ok(id)
+    }
+
+    /// Keeps the number of a type, if there is room.
+    fn keep(&mut self, alloc: Global, ty: &Ty, id: usize) -> Result<(), Memory>
+        requires { slice_get self.old id ≡ Some ty.now }
+        ensures { self.new ≡ self.old }
+    {
+        if self.recent.len() >= MOST_RECENT {
+            return Ok(());
+        }
+        let ty = ty.copy(alloc)?;
+        self.recent.push(RecentType { ty, id })?;
+        Ok(())
+    }
+
+    /// The number of a type, node by node.
+    fn intern_nodes(&mut self, alloc: Global, ty: &Ty) -> Result<usize, Memory>
+        ensures ok { IfOk result (λ id. slice_get self.new id ≡ Some ty.now) }
+        ensures grows { Extends self.old self.new }
+        ensures added { IfOk result (λ _. ExtendsBy (ty.now ∷ []) self.old self.new) }
+    {
         let mut numbers = Vec::new(alloc);
         for node in ty.nodes() {
             numbers = self.put(alloc, numbers, node)?;
         }
         Ok(numbers[0])
     }
+}
+
+/// The number that is kept beside a type.
+fn find_recent(recent: &[RecentType], ty: &Ty) -> Option<usize>
+    ensures { (types : ListOf TypeTree) → AreRecent types recent.now
+        → IfSome result (λ id. slice_get types id ≡ Some ty.now) }
+{
+    for one in recent {
+        if one.ty == *ty {
+            return Some(one.id);
+        }
+    }
+    None
 }
 
 /// The arguments of a node that makes a type of functions, whose name is given.

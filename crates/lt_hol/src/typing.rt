@@ -2,6 +2,8 @@
 ghost use Rattle.std.specs.Prelude.{◌≡◌, ◌∷◌, ◌<◌, [], List as ListOf, Option as Maybe, Some as Just, Ok as Fine, length, reverse, slice_get, true, IfOk};
 ghost use Rattle.lt_definitions.specs.Types.{TypeTree, row, fun};
 ghost use Rattle.lt_definitions.specs.Typing.{typed, type_fault, types_fault, unless, with_ok, constant_type, declared_type, applied_type, bound_type};
+ghost use Rattle.lt_definitions.specs.Derivations.{term_fault};
+ghost use Rattle.lt_hol.specs.declared.type_fault.TypeFault.TheVariants.{Mismatch as MismatchOf};
 ghost use Rattle.lt_hol.specs.Faults.{Checks, Gives};
 ghost use Rattle.lt_hol.specs.Outcomes.{Typed, IsOutcome, AreOutcomes, IsWithin, AreWithin, IsHint, typed_step, applied_outcomes, abstracted_outcomes};
 ghost use Rattle.lt_hol.specs.TypeTables.{type_at, all_below, types_at, Extends, ExtendsBy};
@@ -28,19 +30,50 @@ impl Signature {
         ensures { Gives (typed self.now [] t.now) result }
     {
         let mut table = TypeTable::new(alloc)?;
-        match self.outcome_of(alloc, &mut table, t)? {
+        self.type_in(alloc, &mut table, t)
+    }
+
+    /// As `type_of`, over a table that keeps the types of terms that were typed before.
+    pub fn type_in(&self, alloc: Global, table: &mut TypeTable, t: &Term) -> Result<Ty, TypeFault>
+        ensures gives { Gives (typed self.now [] t.now) result }
+        ensures grows { Extends table.old table.new }
+    {
+        match self.outcome_of(alloc, table, t)? {
             Outcome::Known(id) => Ok(table.ty(alloc, id)?),
-            Outcome::Mismatch(function, argument) => {
-                let function = table.ty(alloc, function)?;
-                Err(TypeFault::Mismatch(function, table.ty(alloc, argument)?))
-            }
+            Outcome::Mismatch(t, u) => Err(mismatch(alloc, table, t, u)?),
+            Outcome::Wrong(fault) => Err(fault),
+        }
+    }
+
+    /// Ok where a term has a type, else its first fault, as `type_of`; the type isn't made.
+    pub fn check_term(&self, alloc: Global, t: &Term) -> Result<(), TypeFault>
+        ensures { Checks (term_fault self.now t.now) result }
+    {
+        let mut table = TypeTable::new(alloc)?;
+        self.check_term_in(alloc, &mut table, t)
+    }
+
+    /// As `check_term`, over a table that keeps the types of terms that were typed before.
+    pub fn check_term_in(
+        &self,
+        alloc: Global,
+        table: &mut TypeTable,
+        t: &Term,
+    ) -> Result<(), TypeFault>
+        ensures checks { Checks (term_fault self.now t.now) result }
+        ensures grows { Extends table.old table.new }
+    {
+        match self.outcome_of(alloc, table, t)? {
+            Outcome::Known(_) => Ok(()),
+            Outcome::Mismatch(t, u) => Err(mismatch(alloc, table, t, u)?),
             Outcome::Wrong(fault) => Err(fault),
         }
     }
 
     /// What is known of a term.
     fn outcome_of(&self, alloc: Global, table: &mut TypeTable, t: &Term) -> Result<Outcome, Memory>
-        ensures { IfOk result (λ o. IsOutcome table.new o (typed self.now [] t.now)) }
+        ensures outcome { IfOk result (λ o. IsOutcome table.new o (typed self.now [] t.now)) }
+        ensures grows { Extends table.old table.new }
     {
         let hints = bound_types(alloc, table, t)?;
         let nodes = t.nodes();
@@ -195,6 +228,16 @@ impl Signature {
             Err(fault) => Ok(Outcome::Wrong(fault)),
         }
     }
+}
+
+/// The fault that a function of one type isn't applied to an argument of another.
+fn mismatch(alloc: Global, table: &TypeTable, t: usize, u: usize) -> Result<TypeFault, Memory>
+    requires function { t < length table.now }
+    requires argument { u < length table.now }
+    ensures { IfOk result (λ fault. fault ≡ MismatchOf (type_at table.now t) (type_at table.now u)) }
+{
+    let function = table.ty(alloc, t)?;
+    Ok(TypeFault::Mismatch(function, table.ty(alloc, u)?))
 }
 
 /// What is known of an abstraction whose binder's type has no fault.

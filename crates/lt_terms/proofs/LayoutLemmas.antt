@@ -103,3 +103,20 @@ room-over before over (Bound x) r = tt
 room-over before over (Const c ts) r = tt
 room-over before over (App i j) r = simp length-append (omega arith)
 room-over before over (Lam x t i) r = simp length-append (omega arith)
+
+-- ---- nodes that are copied one after another
+
+pub copied-more : (nodes made more : List TermNode) (i : ℕ) (n m : TermNode) → made ≡ take i nodes → m ≡ n → n ≡ get_or nodes i n → i < length nodes → more ≡ made ++ m ∷ [] → more ≡ take (i + 1) nodes
+copied-more nodes made more i n m h same at lt e = e ∙ (λ j. h j ++ (same ∙ at) j ∷ []) ∙ sym (take_more nodes i n lt)
+
+copied-all : (nodes made : List TermNode) (i : ℕ) → i ≤ length nodes → length nodes ≤ i → made ≡ take i nodes → made ≡ nodes
+copied-all nodes made i up down h =
+    let e : i ≡ length nodes = omega (arith, up, down) in
+    h ∙ ap (λ k. take k nodes) e ∙ take-length nodes
+
+pub copied-whole : (nodes made : List TermNode) (t : TermTree) (i : ℕ) → nodes ≡ term_nodes 0 t → i ≤ length nodes → length nodes ≤ i → made ≡ take i nodes → term_of_nodes made ≡ t
+copied-whole nodes made t i e up down h = ap term_of_nodes (copied-all nodes made i up down h ∙ e) ∙ term_of_nodes-term_nodes 0 t
+
+pub copied-laid : (nodes made : List TermNode) (t : TermTree) (i : ℕ) → nodes ≡ term_nodes 0 t → i ≤ length nodes → length nodes ≤ i → made ≡ take i nodes → made ≡ term_nodes 0 (term_of_nodes made)
+copied-laid nodes made t i e up down h =
+    copied-all nodes made i up down h ∙ e ∙ ap (term_nodes 0) (sym (copied-whole nodes made t i e up down h))

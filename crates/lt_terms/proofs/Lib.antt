@@ -3,6 +3,7 @@ pub mod Stacks
 pub mod Replacements
 pub mod OpenBinders
 pub mod BinderPasses
+pub mod NoBinders
 pub mod BinderLengths
 pub mod NewNames
 pub mod Signs

@@ -1,8 +1,10 @@
 -- The binders of bound names, told by their places among the nodes of a term.
-use Rattle.std.specs.Prelude.{ℕ, suc, ◌+◌, List, [], ◌∷◌, ◌++◌, Option, Some, None, if◌then◌else◌}
+use Rattle.std.specs.Prelude.{ℕ, suc, ◌+◌, List, [], ◌∷◌, ◌++◌, Bool, true, false, ◌||◌, Option, Some, None, if◌then◌else◌}
 use Rattle.lt_definitions.specs.Types.{Chars, same_name}
 use Rattle.lt_definitions.specs.Terms.{TermTree, free_variable, bound_name, constant, application, abstraction}
 use Rattle.lt_terms.specs.declared.bound_names.Binder.{Binder}
+use Rattle.lt_terms.specs.declared.term.TermNode.{TermNode}
+use Rattle.lt_terms.specs.declared.term.TermNode.TheVariants.{Bound}
 use Rattle.lt_terms.specs.Layout.{under}
 
 -- binders with their places, the innermost first
@@ -26,3 +28,16 @@ binders_in from around (bound_name x) = binder_of x around ∷ []
 binders_in from around (constant c ts) = None ∷ []
 binders_in from around (application f a) = binders_in from around f ++ (binders_in (from + (under f + 1)) around a ++ None ∷ [])
 binders_in from around (abstraction x t b) = binders_in from ((x, from + (under b + 1)) ∷ around) b ++ None ∷ []
+
+-- whether a term has a bound name
+abbrev pub has_bound_name : TermTree → Bool
+has_bound_name (free_variable x t) = false
+has_bound_name (bound_name x) = true
+has_bound_name (constant c ts) = false
+has_bound_name (application f a) = has_bound_name f || has_bound_name a
+has_bound_name (abstraction x t b) = has_bound_name b
+
+-- whether a node is one
+abbrev pub is_bound_name : TermNode → Bool
+is_bound_name (Bound x) = true
+is_bound_name _ = false

@@ -1,5 +1,5 @@
 -- How a term lies in a vector: its nodes, children before parents and from the left.
-use Rattle.std.specs.Prelude.{◌≡◌, ℕ, ◌+◌, List, [], ◌∷◌, ◌++◌, ◌≤◌, length}
+use Rattle.std.specs.Prelude.{◌≡◌, ℕ, ◌+◌, List, [], ◌∷◌, ◌++◌, ◌≤◌, length, drop}
 use Rattle.lt_terms.specs.declared.term.TermNode.{TermNode}
 use Rattle.lt_terms.specs.declared.term.TermNode.TheVariants.{Free, Bound, Const, App, Lam}
 use Rattle.lt_definitions.specs.Types.{Chars, TypeTree}
@@ -80,6 +80,7 @@ abbrev pub roots : List TermTree → List ℕ
 roots [] = []
 roots (t ∷ before) = roots before ++ (sizes before + under t) ∷ []
 
+-- The last term's root is the last node, so the roots of those before it are kept.
 pub record IsStack (nodes : List TermNode) (places : List ℕ) (terms : List TermTree) : Type 0 where
   pub laid : nodes ≡ stacked terms
-  pub at : places ≡ roots terms
+  pub at : places ≡ roots (drop 1 terms)

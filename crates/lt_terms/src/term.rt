@@ -143,7 +143,10 @@ impl Term {
 
 impl TryCopy for Term {
     fn copy(&self, alloc: Global) -> Result<Term, Memory> {
-        let builder = TermBuilder::new(alloc).term(alloc, self)?;
-        Ok(builder.finish())
+        let mut nodes = Vec::with_capacity(alloc, self.len())?;
+        for node in self.nodes() {
+            nodes.push(node.copy(alloc)?)?;
+        }
+        Ok(Term::from_nodes(nodes))
     }
 }

@@ -1,12 +1,12 @@
 -- Types that lie one after another.
-use Rattle.std.proofs.Common.{◌≡◌, ℕ, ◌+◌, ◌-◌, ◌≤◌, List, [], ◌∷◌, ◌++◌, length, take, drop, sym, ◌∙◌, ap, subst, arith, append_assoc, append-nil}
+use Rattle.std.proofs.Common.{◌≡◌, ℕ, zero, suc, ◌+◌, ◌-◌, ◌≤◌, ◌<◌, List, [], ◌∷◌, ◌++◌, length, take, drop, refl, sym, ◌∙◌, ap, subst, arith, append_assoc, append-nil, length-append}
 use Rattle.std.proofs.lemmas.List.{take-append-drop, length-take-le}
 use Rattle.std.proofs.Math.Seq.{take-append_seam, drop-append_seam}
 use Rattle.lt_types.specs.declared.ty.TyNode.{TyNode}
 use Rattle.lt_types.specs.declared.ty.TyNode.TheVariants.{Var, Con}
 use Rattle.lt_definitions.specs.Types.{TypeTree, Chars, type_variable, type_constructor, row}
 use Rattle.lt_definitions.proofs.SameNames.{listed-row}
-use Rattle.lt_types.specs.Layout.{below, sizes, type_size, roots, type_nodes, row_nodes, forest, IsRow}
+use Rattle.lt_types.specs.Layout.{below, sizes, type_size, roots, type_nodes, row_nodes, forest, all_roots, IsRow}
 use Rattle.lt_types.proofs.LayoutLemmas.{length-roots, length-row_nodes, forest-row_nodes}
 
 sizes-append : (f g : List TypeTree) → sizes (row (f ++ g)) ≡ sizes (row f) + sizes (row g)
@@ -80,3 +80,25 @@ row-con nodes more_nodes places more_places ids kept made name n k h fits e ke d
   where
     at : length places - k ≡ length (take (length made - k) made)
     at = ap (λ m. m - k) (length-row nodes places made h) ∙ sym (length-take-le (length made - k) made (omega arith))
+
+-- ---- where the last root is left out
+
+pub roots-next : (nodes more_nodes : List TyNode) (n : TyNode) (places : List ℕ) → more_nodes ≡ nodes ++ n ∷ [] → all_roots (length more_nodes) places ≡ places ++ length nodes ∷ []
+roots-next nodes more_nodes n places e =
+    let one : length more_nodes ≡ suc (length nodes) = omega (arith, ap length e, length-append nodes (n ∷ [])) in
+    ap (λ k. all_roots k places) one
+
+pub roots-length : (n : ℕ) (places : List ℕ) → 0 < n → length (all_roots n places) ≡ length places + 1
+roots-length zero places h = absurd (omega (arith, h))
+roots-length (suc n) places h = length-append places (n ∷ [])
+
+pub built-var : (nodes more_nodes : List TyNode) (places all : List ℕ) (made : List TypeTree) (name : Chars) → IsRow nodes (all_roots (length nodes) places) made → all ≡ all_roots (length nodes) places
+    → more_nodes ≡ nodes ++ Var name ∷ [] → IsRow more_nodes (all_roots (length more_nodes) all) (made ++ type_variable name ∷ [])
+built-var nodes more_nodes places all made name h e q =
+    row-var nodes more_nodes all (all_roots (length more_nodes) all) made name (length nodes) (subst (λ (ps : List ℕ). IsRow nodes ps made) (sym e) h) refl (roots-next nodes more_nodes (Var name) all q) q
+
+pub built-con : (nodes more_nodes : List TyNode) (places all kept ids : List ℕ) (made : List TypeTree) (name : Chars) (k : ℕ) → IsRow nodes (all_roots (length nodes) places) made → k ≤ length made → all ≡ all_roots (length nodes) places
+    → kept ≡ take (length all - k) all → ids ≡ drop (length all - k) all → more_nodes ≡ nodes ++ Con name ids ∷ []
+    → IsRow more_nodes (all_roots (length more_nodes) kept) (take (length made - k) made ++ type_constructor name (row (drop (length made - k) made)) ∷ [])
+built-con nodes more_nodes places all kept ids made name k h fits e ke d q =
+    row-con nodes more_nodes all (all_roots (length more_nodes) kept) ids kept made name (length nodes) k (subst (λ (ps : List ℕ). IsRow nodes ps made) (sym e) h) fits refl ke d (roots-next nodes more_nodes (Con name ids) kept q) q

@@ -1,5 +1,5 @@
 -- How a type lies in a vector: its nodes, children before parents and from the left.
-use Rattle.std.specs.Prelude.{◌≡◌, ℕ, ◌+◌, ◌-◌, ◌≤◌, List, [], ◌∷◌, ◌++◌, length, take, drop}
+use Rattle.std.specs.Prelude.{◌≡◌, ℕ, zero, suc, ◌+◌, ◌-◌, ◌≤◌, List, [], ◌∷◌, ◌++◌, length, take, drop}
 use Rattle.lt_types.specs.declared.ty.TyNode.{TyNode}
 use Rattle.lt_types.specs.declared.ty.TyNode.TheVariants.{Var, Con}
 use Rattle.lt_definitions.specs.Types.{TypeTree, TypeTrees, type_variable, type_constructor, no_types, type_and, row}
@@ -65,3 +65,8 @@ type_of_nodes nodes = first (forest [] nodes)
 pub record IsRow (nodes : List TyNode) (places : List ℕ) (types : List TypeTree) : Type 0 where
   pub laid : nodes ≡ row_nodes 0 (row types)
   pub at : places ≡ roots 0 (row types)
+
+-- the roots of all types, where those of all but the last are given: the last one's root is the last of so many nodes
+abbrev pub all_roots : ℕ → List ℕ → List ℕ
+all_roots zero places = places
+all_roots (suc n) places = places ++ n ∷ []

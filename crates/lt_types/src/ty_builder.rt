@@ -1,7 +1,7 @@
 //! Types that are made one after another, from their nodes in post-order.
 ghost use Rattle.std.specs.Prelude.{◌≡◌, ◌≤◌, ◌-◌, [], ◌∷◌, ◌++◌, length, take, drop, IfOk};
 ghost use Rattle.lt_definitions.specs.Types.{type_variable, type_constructor, row};
-ghost use Rattle.lt_types.specs.Layout.{HasRoom, grow};
+ghost use Rattle.lt_types.specs.Layout.{HasRoom, grow, all_roots};
 
 use crate::list::{List, TryCopy};
 use crate::memory::Memory;
@@ -12,7 +12,8 @@ use std::marker::Model;
 
 /// Types that are being made, which contracts see as the list of those made so far.
 ///
-/// It is the way to make a type in time linear in its nodes, however deep it is.
+/// It is the way to make a type in time linear in its nodes, however deep it is. The roots of all
+/// types but the last are kept, so that a type of one node needs no place for roots.
 #[derive(Debug, Drop)]
 pub struct TyBuilder {
     nodes: Vec<TyNode>,
@@ -20,7 +21,7 @@ pub struct TyBuilder {
 }
 
 impl Model for TyBuilder {
-    ghost use Rattle.std.specs.Prelude.{List, []};
+    ghost use Rattle.std.specs.Prelude.{List, [], length};
     ghost use Rattle.std.specs.Coded.{coded_list};
     ghost use Rattle.lt_definitions.specs.Types.{TypeTree};
     ghost use Rattle.lt_types.specs.Codes.{coded_type};
@@ -29,11 +30,12 @@ impl Model for TyBuilder {
 
     ghost coded = { coded_list coded_type };
 
-    ghost use Rattle.lt_types.specs.Layout.{forest, IsRow};
+    ghost use Rattle.lt_types.specs.Layout.{forest, all_roots, IsRow};
 
     ghost view = { λ b. forest [] b.nodes.items };
 
-    ghost invariant = { λ b. IsRow b.nodes.items b.roots.items (forest [] b.nodes.items) };
+    ghost invariant = { λ b. IsRow b.nodes.items (all_roots (length b.nodes.items) b.roots.items)
+        (forest [] b.nodes.items) };
 }
 
 impl TyBuilder {
@@ -51,20 +53,20 @@ impl TyBuilder {
     pub fn len(&self) -> usize
         ensures { result ≡ length self.now }
     {
-        self.roots.len()
+        if self.nodes.len() == 0 {
+            return 0;
+        }
+        self.roots.len() + 1
     }
 
     /// One more type, a variable.
     pub fn var(self, _alloc: Global, name: Name) -> Result<TyBuilder, Memory>
         ensures { IfOk result (λ b. b ≡ self ++ type_variable name ∷ []) }
     {
-        let TyBuilder {
-            mut nodes,
-            mut roots,
-        } = self;
-        roots.push(nodes.len())?;
+        let TyBuilder { mut nodes, roots } = self;
+        let all = all_roots(nodes.len(), roots)?;
         nodes.push(TyNode::Var(name))?;
-        Ok(TyBuilder { nodes, roots })
+        Ok(TyBuilder { nodes, roots: all })
     }
 
     /// The last `count` types become the arguments of a constructor.
@@ -74,14 +76,11 @@ impl TyBuilder {
             ≡ take (length self - count) self ++ type_constructor name (row (drop
             (length self - count) self)) ∷ []) }
     {
-        let TyBuilder {
-            mut nodes,
-            mut roots,
-        } = self;
-        let places = roots.split_off(roots.len() - count)?;
-        roots.push(nodes.len())?;
+        let TyBuilder { mut nodes, roots } = self;
+        let mut all = all_roots(nodes.len(), roots)?;
+        let places = all.split_off(all.len() - count)?;
         nodes.push(TyNode::Con(name, List::from_vec(places)))?;
-        Ok(TyBuilder { nodes, roots })
+        Ok(TyBuilder { nodes, roots: all })
     }
 
     /// What a node makes of the last types.
@@ -114,4 +113,16 @@ impl TyBuilder {
         let TyBuilder { nodes, roots: _ } = self;
         Ty::from_nodes(alloc, nodes)
     }
+}
+
+/// The roots of all types that so many nodes make, where those of all but the last are given.
+fn all_roots(count: usize, roots: Vec<usize>) -> Result<Vec<usize>, Memory>
+    ensures { IfOk result (λ all. all.items ≡ all_roots count roots.items) }
+{
+    let mut roots = roots;
+    if count == 0 {
+        return Ok(roots);
+    }
+    roots.push(count - 1)?;
+    Ok(roots)
 }

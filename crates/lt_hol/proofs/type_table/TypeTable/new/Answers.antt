@@ -7,4 +7,4 @@ pub word-requires : goal.word-requires
 word-requires c = fun-word
 
 pub invariant_of-result : goal.invariant_of-result
-invariant_of-result c = empty-table c.new.result.keys c.in_ok-word.field-0 c.new.ensures.empty (c.in_ok-word.ensures ∙ fun-chars)
+invariant_of-result c = empty-table c.new.result.keys c.in_ok-word.field-0 c.new-recent.result.items c.new.ensures.empty (c.in_ok-word.ensures ∙ fun-chars) c.new-recent.ensures.items

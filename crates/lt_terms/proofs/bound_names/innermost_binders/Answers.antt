@@ -3,11 +3,11 @@ use Rattle.lt_terms.specs.declared.bound_names.Binder.{Binder}
 use Rattle.lt_terms.specs.Layout.{forest}
 use Rattle.lt_terms.proofs.LayoutLemmas.{whole}
 use Rattle.lt_terms.proofs.BinderPasses.{IsFinding, at-end, at-start, some-pending, visited}
-use Rattle.lt_terms.proofs.bound_names.binders.Goals as goal
+use Rattle.lt_terms.proofs.bound_names.innermost_binders.Goals as goal
 
 pub loop-at-init : goal.loop-at-init
 loop-at-init c =
-    subst (λ (found : List (Option Binder)). IsFinding c.args.t.now (forest [] (take (length c.nodes-nodes.result.now) c.nodes-nodes.result.now)) c.in_ok-pending.pending (reverse found)) (sym c.new-found.ensures.items)
+    subst (λ (found : List (Option Binder)). IsFinding c.args.t.now (forest [] (take (length c.nodes-nodes.result.now) c.nodes-nodes.result.now)) c.in_ok-pending.pending (reverse found)) (sym c.in_ok-found.ensures.items)
     (at-end c.args.t.now _ c.in_ok-pending.pending (whole _ c.args.t.now (length c.nodes-nodes.result.now) c.nodes-nodes.ensures (omega arith) (omega arith)) c.in_ok-pending.ensures)
 
 pub visit-requires : goal.visit-requires

@@ -2,7 +2,7 @@ use Rattle.std.proofs.Common.{[], take}
 use Rattle.lt_types.specs.Layout.{forest}
 use Rattle.lt_hol.specs.TypeTables.{Extends, ExtendsBy}
 use Rattle.lt_hol.proofs.TypeNumbers.{AreNumbers}
-use Rattle.lt_hol.proofs.type_table.TypeTable.intern.Given as goal
+use Rattle.lt_hol.proofs.type_table.TypeTable.intern_nodes.Given as goal
 
 abbrev pub invariant-loop-node : goal.invariant-loop-node
 invariant-loop-node l = record {

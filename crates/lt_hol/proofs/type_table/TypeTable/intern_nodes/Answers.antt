@@ -6,7 +6,7 @@ use Rattle.lt_hol.specs.TypeTables.{types_at, is_part_of_some, ExtendsBy}
 use Rattle.lt_hol.proofs.AddedTypes.{by-node, part-grow}
 use Rattle.lt_hol.proofs.DistinctTypes.{extends-then}
 use Rattle.lt_hol.proofs.TypeNumbers.{AreNumbers, one-number, some-number}
-use Rattle.lt_hol.proofs.type_table.TypeTable.intern.Goals as goal
+use Rattle.lt_hol.proofs.type_table.TypeTable.intern_nodes.Goals as goal
 
 pub put-requires-clause-room : goal.put-requires-clause-room
 put-requires-clause-room c =
