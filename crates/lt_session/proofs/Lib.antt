@@ -1,5 +1,7 @@
 -- What the prover doesn't find alone.
 pub mod Takings
+pub mod Registerings
+pub mod Correspondences
 pub mod Totals
 pub mod OnTheWay
 pub mod Steppings

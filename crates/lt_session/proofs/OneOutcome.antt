@@ -1,23 +1,28 @@
 -- One block or one refusal comes of each built command.
-use Rattle.std.proofs.Common.{◌≡◌, List, [], ◌∷◌, true, Option, Some, None, Ok, Err, refl, sym, ◌∙◌, ap, subst, ℕ}
+use Rattle.std.proofs.Common.{◌≡◌, List, [], ◌∷◌, true, Option, Some, None, Ok, Err, refl, sym, ◌∙◌, ap, subst, ℕ, codes}
 use Rattle.std.specs.Prelude.{not}
-use Rattle.lt_definitions.specs.Types.{Chars, found}
+use Rattle.lt_definitions.specs.Types.{Chars, found, TypeTree}
+use Rattle.lt_definitions.specs.Typing.{declared_type}
 use Rattle.lt_definitions.specs.Terms.{TermTree}
 use Rattle.lt_definitions.specs.Alpha.{is_alpha}
 use Rattle.lt_definitions.specs.Items as theory
 use Rattle.lt_definitions.specs.Theory.{unknown_statement}
 use Rattle.lt_texts.specs.Commands.{Command, item_command, law_command, corr_command, relator_command, property_command, domain_command, rule_command, lifting_command, lifting_typedef_command, quotient_type_command, lift_command, parametric_command, param_rule_command, equiv_command, implies_command, carry_command, abs_eq_command, rep_eq_command}
 use Rattle.lt_walks.specs.Walks.{AreOne}
-use Rattle.lt_transport_definitions.specs.Sessions.{Session}
-use Rattle.lt_transport_definitions.specs.Commands.{CommandRefusal, as_item, because, law_registered, Addition, this_item, a_lemma, Block, session_behind}
+use Rattle.lt_transport_definitions.specs.Sessions.{Session, signature_of}
+use Rattle.lt_transport_definitions.specs.Relations.{Correspondence}
+use Rattle.lt_transport_definitions.specs.Forms.{declared_correspondence}
+use Rattle.lt_transport_definitions.specs.Commands.{CommandRefusal, as_item, because, law_registered, corr_registered, Addition, this_item, a_lemma, Block, session_behind}
 use Rattle.lt_transport_definitions.specs.Rows.{BlockOutcome}
 use Rattle.lt_transport_definitions.specs.Blocks.{Unless, OfValue, ComesOfRow, ComesOf, AreItemsOf}
 use Rattle.lt_transport_definitions.specs.Answers.{first_wrong, wrong_where}
 use Rattle.lt_transport_definitions.specs.LawTexts.{law_statement}
-use Rattle.lt_transport_definitions.specs.Table.{registers}
+use Rattle.lt_transport_definitions.specs.Table.{registers, relator_shape, constructor_test}
 use Rattle.lt_session.specs.Taking.{is_built}
 use Rattle.lt_session.specs.Walks.{RunRefusal, by_table, not_built, GivesBuilt, RefusesBuilt, built_commands}
 use Rattle.lt_session.proofs.Takings.{law-row, label-wrong, law-block, OfLaw}
+use Rattle.lt_session.proofs.Registerings.{one-registration}
+use Rattle.lt_session.proofs.Correspondences.{OfCorr, const-wrong}
 
 -- items as they stand, and no lemma with free lines
 abbrev AreThese : List Addition → Type 0
@@ -57,10 +62,17 @@ one-law s w l =
     OfSame : TermTree → TermTree → BlockOutcome → Type 0
     OfSame t u p = Unless (wrong_where (not (is_alpha t u)) (because "LawDiffers" (w ∷ []))) (ComesOfRow s (registers (law_registered w l))) p
 
+-- `corr`, by the constant's type and the correspondence that it is
+one-corr : (s : Session) (c : Chars) (t : Option TypeTree) (d : Option Correspondence) → IsOne (λ o. Unless (first_wrong (const-wrong c t ∷ None ∷ None ∷ [])) (OfCorr s c d) o)
+one-corr s c t d =
+    one-unless (first_wrong (const-wrong c t ∷ None ∷ None ∷ [])) (OfCorr s c d)
+    (one-value d (relator_shape (codes "Corr")) (λ e p. Unless (constructor_test s.registry c) (ComesOfRow s (registers (corr_registered e))) p)
+    (λ e. one-unless (constructor_test s.registry c) (ComesOfRow s (registers (corr_registered e))) (one-block (one-registration (corr_registered e)) tt)))
+
 one-comes : (s : Session) (c : Command) → is_built c ≡ true → IsOne (ComesOf s c)
 one-comes s (item_command i) b = one-unless _ _ (one-block _ tt)
 one-comes s (law_command w l) b = one-law s w l
-one-comes s (corr_command a) b = absurd (cc b)
+one-comes s (corr_command a) b = one-corr s a (declared_type (signature_of s) a) (declared_correspondence (signature_of s) a)
 one-comes s (relator_command x y z u v w) b = absurd (cc b)
 one-comes s (property_command l) b = absurd (cc b)
 one-comes s (domain_command l) b = absurd (cc b)

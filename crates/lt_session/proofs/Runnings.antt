@@ -15,7 +15,7 @@ use Rattle.lt_texts.specs.Forms.{theory_text, header_text}
 use Rattle.lt_texts.specs.WrongPlaces.{Stands, AtEnd}
 use Rattle.lt_io.specs.Written.{Grew, GrewByFront}
 use Rattle.lt_io.proofs.WriteLemmas.{Grew-append}
-use Rattle.lt_extend.specs.Theories.{items_of, context_behind}
+use Rattle.lt_extend.specs.Theories.{items_of}
 use Rattle.lt_walks.specs.Walks.{End, accepted, too_long, wrong_header, unread, refused, EndsThere, WalksText}
 use Rattle.lt_walks.specs.Outputs.{summary_of}
 use Rattle.lt_commands.specs.declared.refusal.Refusal.TheVariants.{Memory as NoMemory}
@@ -26,7 +26,7 @@ use Rattle.lt_transport_definitions.specs.Reports.{written_of}
 use Rattle.lt_session.specs.declared.running.Stop.{Stop}
 use Rattle.lt_session.specs.declared.running.Stop.TheVariants as stops
 use Rattle.lt_session.specs.declared.session.Block.{Block}
-use Rattle.lt_session.specs.Sessions.{Holding, session_of, typedefs_of}
+use Rattle.lt_session.specs.Sessions.{Holding, new_holding, session_of}
 use Rattle.lt_session.specs.Walks.{RunRefusal, built_commands}
 use Rattle.lt_session.specs.Stepping.{TellsEnd, RefusesHeader, StopsAt, IsNext}
 use Rattle.lt_session.specs.Running.{written_first, written_items, written_so_far, written_last, IsNoRefusal, IsStop, IsEnd, IsCut, IsRun}
@@ -90,20 +90,23 @@ pub record IsOnWay (limit : ℕ) (summary : Bool) (text : List ℕ) (h : Holding
   pub items : items_of h.items ≡ items_of_blocks blocks
   pub grew : Grew before now (written_so_far summary (items_of h.items))
 
-session-begins : (h : Holding) → h.items ≡ [] → h.laws ≡ [] → session_of h ≡ new_session h.limit
-session-begins h e k = λ i. record (session_of h) { context = context_behind (e i); typedefs = typedefs_of (items_of (e i)); laws = k i }
+session-begins : (h : Holding) → h ≡ new_holding h.limit → session_of h ≡ new_session h.limit
+session-begins h e = ap session_of e
 
-comes-first : (text : List ℕ) (h : Holding) (at : Left) → h.items ≡ [] → h.laws ≡ [] → Stands (left_of text) (header_text theory_text) at → ComesTo h.limit text [] (session_of h) at
-comes-first text h at e k s = subst (λ (z : Session). ComesTo h.limit text [] z at) (sym (session-begins h e k)) (begun h.limit text at s)
+no-items : (h : Holding) → h ≡ new_holding h.limit → h.items ≡ []
+no-items h e = ap (λ (z : Holding). z.items) e
 
-pub way_begins : (summary : Bool) (text : List ℕ) (h : Holding) (at : Left) (a b : Option (List ℕ)) → h.items ≡ [] → h.laws ≡ [] → Stands (left_of text) (header_text theory_text) at
+comes-first : (text : List ℕ) (h : Holding) (at : Left) → h ≡ new_holding h.limit → Stands (left_of text) (header_text theory_text) at → ComesTo h.limit text [] (session_of h) at
+comes-first text h at e s = subst (λ (z : Session). ComesTo h.limit text [] z at) (sym (session-begins h e)) (begun h.limit text at s)
+
+pub way_begins : (summary : Bool) (text : List ℕ) (h : Holding) (at : Left) (a b : Option (List ℕ)) → h ≡ new_holding h.limit → Stands (left_of text) (header_text theory_text) at
     → Grew a b (encode_utf8_all (written_first summary)) → IsOnWay h.limit summary text h at a b
-way_begins summary text h at a b e k s grew = record {
+way_begins summary text h at a b e s grew = record {
   same = refl;
   blocks = [];
-  comes = comes-first text h at e k s;
-  items = ap items_of e;
-  grew = subst (λ (xs : List ItemData). Grew a b (written_so_far summary (items_of xs))) (sym e)
+  comes = comes-first text h at e s;
+  items = ap items_of (no-items h e);
+  grew = subst (λ (xs : List ItemData). Grew a b (written_so_far summary (items_of xs))) (sym (no-items h e))
       (subst (λ (z : List ℕ). Grew a b z) (sym (append-nil (encode_utf8_all (written_first summary)))) grew);
 }
 
@@ -176,11 +179,11 @@ way_cut_in_block limit summary text old new at at' block a b c h n front =
     (front_behind a b c (written_so_far summary (items_of old.items)) (written_items summary (items_of (drop block.from new.items))) h.grew front))
 
 -- cut before the first item
-pub first_cut : (summary : Bool) (text : List ℕ) (h : Holding) (at : Left) (a b : Option (List ℕ)) → h.items ≡ [] → h.laws ≡ [] → Stands (left_of text) (header_text theory_text) at
+pub first_cut : (summary : Bool) (text : List ℕ) (h : Holding) (at : Left) (a b : Option (List ℕ)) → h ≡ new_holding h.limit → Stands (left_of text) (header_text theory_text) at
     → GrewByFront a b (encode_utf8_all (written_first summary)) → IsCut h.limit summary text (items_of h.items) a b
-first_cut summary text h at a b e k s front =
-    cut h.limit summary text (items_of h.items) [] (session_of h) at a b (comes-first text h at e k s) (ap items_of e)
-    (subst (λ (xs : List ItemData). GrewByFront a b (written_so_far summary (items_of xs))) (sym e)
+first_cut summary text h at a b e s front =
+    cut h.limit summary text (items_of h.items) [] (session_of h) at a b (comes-first text h at e s) (ap items_of (no-items h e))
+    (subst (λ (xs : List ItemData). GrewByFront a b (written_so_far summary (items_of xs))) (sym (no-items h e))
     (subst (λ (z : List ℕ). GrewByFront a b z) (sym (append-nil (encode_utf8_all (written_first summary)))) front))
 
 -- ---- its end
@@ -278,11 +281,11 @@ none-cut limit summary text a =
     let w = each_text (built_commands limit) (built_total limit) text in ([], w.0, w.1, w.2, refl, front_none a a (written_of summary (items_of_blocks w.0) w.1) (Grew-none a), inl (front_none a a (written_so_far summary []) (Grew-none a)))
 
 -- or at its header
-pub header_stops : (limit : ℕ) (summary : Bool) (text : List ℕ) (items : List ItemData) (a : Option (List ℕ)) (p : Placed) (stop : Stop) → items ≡ [] → RefusesHeader (left_of text) p → IsStop p stop
-    → IsRun limit summary text (items_of items) a a (Err stop)
-header_stops limit summary text items a p stop e k is =
-    subst (λ (xs : List ItemData). IsRun limit summary text (items_of xs) a a (Err stop)) (sym e)
-    (told-end limit summary text [] a a p (none-cut limit summary text a) (header-end limit summary text a p k) stop is)
+pub header_stops : (summary : Bool) (text : List ℕ) (h : Holding) (a : Option (List ℕ)) (p : Placed) (stop : Stop) → h ≡ new_holding h.limit → RefusesHeader (left_of text) p → IsStop p stop
+    → IsRun h.limit summary text (items_of h.items) a a (Err stop)
+header_stops summary text h a p stop e k is =
+    subst (λ (xs : List ItemData). IsRun h.limit summary text (items_of xs) a a (Err stop)) (sym (no-items h e))
+    (told-end h.limit summary text [] a a p (none-cut h.limit summary text a) (header-end h.limit summary text a p k) stop is)
 
 -- ---- what a step that writes answers
 

@@ -60,23 +60,25 @@ typedefs-more : (items : List Item) (item : Item) → typedefs_of (items_of (ite
 typedefs-more items item =
     ap typedefs_of (map-append item_of items (item ∷ [])) ∙ fold-append (λ (ts : List TypedefEntry) (i : theory.Item). with_typedef_of i ts) [] (items_of items) (item_of item ∷ [])
 
-behind-block : (old new : Holding) (item : Item) → new.items ≡ old.items ++ item ∷ [] → new.laws ≡ old.laws → new.limit ≡ old.limit
+behind-block : (old new : Holding) (item : Item) → new.items ≡ old.items ++ item ∷ [] → new ≡ record old { items = new.items }
     → session_behind (session_of old) (item-block (item_of item)) ≡ session_of new
-behind-block old new item h l m =
+behind-block old new item h same =
     let e1 : context_behind new.items ≡ with_item (context_behind old.items) (item_of item) = ap context_behind h ∙ behind-item old.items item in
     let e2 : typedefs_of (items_of new.items) ≡ with_typedef_of (item_of item) (typedefs_of (items_of old.items)) = ap (λ (xs : List Item). typedefs_of (items_of xs)) h ∙ typedefs-more old.items item in
-    sym (λ i. record (session_of old) { context = e1 i; typedefs = e2 i; laws = l i; limit = m i })
+    let e3 : session_of (record old { items = new.items }) ≡ session_behind (session_of old) (item-block (item_of item)) =
+    λ i. record (session_of old) { context = e1 i; typedefs = e2 i } in
+    sym (ap session_of same ∙ e3)
 
 -- An item that is valid over those before it was added.
-pub takes-item : (old new : Holding) (item : Item) (block : Answered) → block.from ≡ length old.items → refusal (context_behind old.items) (item_of item) ≡ None → new.items ≡ old.items ++ item ∷ [] → new.laws ≡ old.laws → new.limit ≡ old.limit
-    → IsTaken old (item_command (item_of item)) new block
-takes-item old new item block from e h l m = record {
+pub takes-item : (old new : Holding) (item : Item) (block : Answered) → block.from ≡ length old.items → refusal (context_behind old.items) (item_of item) ≡ None → new.items ≡ old.items ++ item ∷ []
+    → new ≡ record old { items = new.items } → IsTaken old (item_command (item_of item)) new block
+takes-item old new item block from e h same = record {
   command = refl;
   from = from;
   added = item ∷ [];
   items = h;
-  gives = subst (λ (s : Session). Gives (session_of old) (item_command (item_of item)) (item_of item ∷ []) s) (behind-block old new item h l m) (gives-item (session_of old) (item_of item) e);
-  limit = m;
+  gives = subst (λ (s : Session). Gives (session_of old) (item_command (item_of item)) (item_of item ∷ []) s) (behind-block old new item h same) (gives-item (session_of old) (item_of item) e);
+  limit = ap (λ (z : Holding). z.limit) same;
 }
 
 pub refused-item : (s : Session) (i : theory.Item) (r : refusals.Refusal) → refusal s.context i ≡ Some r → ComesOf s (item_command i) (Err (as_item r))
@@ -147,21 +149,22 @@ unless-law s w l t o h = h
 pub gives-law : (s : Session) (w l : Chars) (t : TermTree) → found l s.context.statements ≡ Some t → law_fault w t ≡ None → Gives s (law_command w l) [] (session_behind s (law-block w l))
 gives-law s w l t e f = (law-block w l, comes-law s w l (Some t) _ e (unless-law s w l t _ (accepts s w l t (law_statement w) f)), tt, tt, refl)
 
-behind-law : (old new : Holding) (w l : Chars) → new.items ≡ old.items → new.laws ≡ with_law w l old.laws → new.limit ≡ old.limit
+behind-law : (old new : Holding) (w l : Chars) → new.laws ≡ with_law w l old.laws → new ≡ record old { laws = new.laws }
     → session_behind (session_of old) (law-block w l) ≡ session_of new
-behind-law old new w l h k m =
-    sym (λ i. record (session_of old) { context = context_behind (h i); typedefs = typedefs_of (items_of (h i)); laws = k i; limit = m i })
+behind-law old new w l k same =
+    let e : session_of (record old { laws = new.laws }) ≡ session_behind (session_of old) (law-block w l) = λ i. record (session_of old) { laws = k i } in
+    sym (ap session_of same ∙ e)
 
 -- A law was registered.
-pub takes-law : (old new : Holding) (w l : Chars) (t : TermTree) (block : Answered) → block.from ≡ length old.items → found l (context_behind old.items).statements ≡ Some t → law_fault w t ≡ None → new.items ≡ old.items
-    → new.laws ≡ with_law w l old.laws → new.limit ≡ old.limit → IsTaken old (law_command w l) new block
-takes-law old new w l t block from e f h k m = record {
+pub takes-law : (old new : Holding) (w l : Chars) (t : TermTree) (block : Answered) → block.from ≡ length old.items → found l (context_behind old.items).statements ≡ Some t → law_fault w t ≡ None
+    → new.laws ≡ with_law w l old.laws → new ≡ record old { laws = new.laws } → IsTaken old (law_command w l) new block
+takes-law old new w l t block from e f k same = record {
   command = refl;
   from = from;
   added = [];
-  items = h ∙ sym (append-nil old.items);
-  gives = subst (λ (s : Session). Gives (session_of old) (law_command w l) [] s) (behind-law old new w l h k m) (gives-law (session_of old) w l t e f);
-  limit = m;
+  items = ap (λ (z : Holding). z.items) same ∙ sym (append-nil old.items);
+  gives = subst (λ (s : Session). Gives (session_of old) (law_command w l) [] s) (behind-law old new w l k same) (gives-law (session_of old) w l t e f);
+  limit = ap (λ (z : Holding). z.limit) same;
 }
 
 -- the refusal of a law, as one of the table
@@ -219,34 +222,31 @@ refuses-label s w l e =
 
 -- ---- what a step answers, by the session before it is opened
 
-same-holding : (a b : Holding) → a.items ≡ b.items → a.laws ≡ b.laws → a.limit ≡ b.limit → a ≡ b
-same-holding a b e l m = λ i. record { items = e i; laws = l i; limit = m i }
-
 pub item_taken : (old here new : Holding) (item : Item) (block : Answered) → here ≡ old → block.from ≡ length old.items → refusal (context_behind here.items) (item_of item) ≡ None
-    → new.items ≡ here.items ++ item ∷ [] → new.laws ≡ here.laws → new.limit ≡ here.limit → IsTaken old (item_command (item_of item)) new block
-item_taken old here new item block is from e h l m =
-    subst (λ (s : Holding). block.from ≡ length s.items → IsTaken s (item_command (item_of item)) new block) is (λ f. takes-item here new item block f e h l m) from
+    → new.items ≡ here.items ++ item ∷ [] → new ≡ record here { items = new.items } → IsTaken old (item_command (item_of item)) new block
+item_taken old here new item block is from e h same =
+    subst (λ (s : Holding). block.from ≡ length s.items → IsTaken s (item_command (item_of item)) new block) is (λ f. takes-item here new item block f e h same) from
 
 pub item_refused : (old here new : Holding) (item : Item) (fault : ItemFault) (x : Refused) → here ≡ old → conditions.Refuses (refusal (context_behind here.items) (item_of item)) fault
-    → new.items ≡ here.items → new.laws ≡ here.laws → new.limit ≡ here.limit → x.refusal ≡ flat fault → x.line ≡ line_in fault
+    → new.items ≡ here.items → new ≡ record here { items = new.items } → x.refusal ≡ flat fault → x.line ≡ line_in fault
     → Refuses (session_of old) (item_command (item_of item)) x × (new ≡ old)
-item_refused old here new item fault x is h e l m same line = (
-  subst (λ (s : Holding). Refuses (session_of s) (item_command (item_of item)) x) is (refuses-item here item fault x h same line),
-  same-holding new here e l m ∙ is,
+item_refused old here new item fault x is h e same flattened line = (
+  subst (λ (s : Holding). Refuses (session_of s) (item_command (item_of item)) x) is (refuses-item here item fault x h flattened line),
+  same ∙ ap (λ (xs : List Item). record here { items = xs }) e ∙ is,
 )
 
 pub law_taken : (old here new : Holding) (w l : Chars) (t : TermTree) (block : Answered) → here ≡ old → block.from ≡ length old.items → found l (context_behind here.items).statements ≡ Some t
-    → law_fault w t ≡ None → new.items ≡ here.items → new.laws ≡ with_law w l here.laws → new.limit ≡ here.limit → IsTaken old (law_command w l) new block
-law_taken old here new w l t block is from e f h k m =
-    subst (λ (s : Holding). block.from ≡ length s.items → IsTaken s (law_command w l) new block) is (λ b. takes-law here new w l t block b e f h k m) from
+    → law_fault w t ≡ None → new.laws ≡ with_law w l here.laws → new ≡ record here { laws = new.laws } → IsTaken old (law_command w l) new block
+law_taken old here new w l t block is from e f k same =
+    subst (λ (s : Holding). block.from ≡ length s.items → IsTaken s (law_command w l) new block) is (λ b. takes-law here new w l t block b e f k same) from
 
 pub law_refused : (old here new : Holding) (w l : Chars) (t : TermTree) (f : LawFault) (x : Refused) → here ≡ old → found l (context_behind here.items).statements ≡ Some t → Tests w t (Err f)
-    → new.items ≡ here.items → new.laws ≡ here.laws → new.limit ≡ here.limit → x ≡ record { refusal = of_law f; line = None }
+    → new.laws ≡ here.laws → new ≡ record here { laws = new.laws } → x ≡ record { refusal = of_law f; line = None }
     → Refuses (session_of old) (law_command w l) x × (new ≡ old)
-law_refused old here new w l t f x is e h i k m same = (
+law_refused old here new w l t f x is e h k same told = (
   subst (λ (s : Holding). Refuses (session_of s) (law_command w l) x) is
-      (subst (λ (y : Refused). Refuses (session_of here) (law_command w l) y) (sym same) (refuses-law here w l t f e h)),
-  same-holding new here i k m ∙ is,
+      (subst (λ (y : Refused). Refuses (session_of here) (law_command w l) y) (sym told) (refuses-law here w l t f e h)),
+  same ∙ ap (λ (laws : List (Chars × Chars)). record here { laws = laws }) k ∙ is,
 )
 
 pub label_refused : (old here : Holding) (w l : Chars) (x : Refused) → here ≡ old → found l (context_behind here.items).statements ≡ None → x ≡ record { refusal = UnknownLabel l; line = None }
@@ -265,28 +265,28 @@ takes_err old new c x r is h = subst (λ (z : Result Answered Refused). Takes ol
 
 -- ---- other commands
 
--- A command that adds no item and is no `law` isn't built.
-pub other-unbuilt : (c : Data) → is_item (command_of c) ≡ false → ((w l : Chars) → c ≢ Law w l) → is_built (command_of c) ≡ false
-other-unbuilt (TypeDecl a b) h k = absurd (cc h)
-other-unbuilt (ConstDecl a b) h k = absurd (cc h)
-other-unbuilt (Axiom a b) h k = absurd (cc h)
-other-unbuilt (Def a b d) h k = absurd (cc h)
-other-unbuilt (Typedef a b d e f g) h k = absurd (cc h)
-other-unbuilt (Lemma a b d) h k = absurd (cc h)
-other-unbuilt (Law a b) h k = absurd (k a b refl)
-other-unbuilt (Corr a) h k = refl
-other-unbuilt (Relator a b d e f g) h k = refl
-other-unbuilt (Property a) h k = refl
-other-unbuilt (Domain a) h k = refl
-other-unbuilt (RuleCommand a) h k = refl
-other-unbuilt (Lifting a) h k = refl
-other-unbuilt (LiftingTypedef a) h k = refl
-other-unbuilt (QuotientType a b d e) h k = refl
-other-unbuilt (Lift a b d e) h k = refl
-other-unbuilt (Parametric a) h k = refl
-other-unbuilt (ParamRule a b d) h k = refl
-other-unbuilt (Equiv a b) h k = refl
-other-unbuilt (Implies a b) h k = refl
-other-unbuilt (Carry a b d) h k = refl
-other-unbuilt (AbsEq a) h k = refl
-other-unbuilt (RepEq a) h k = refl
+-- A command that adds no item, and is neither `law` nor `corr`, isn't built.
+pub other-unbuilt : (c : Data) → is_item (command_of c) ≡ false → ((w l : Chars) → c ≢ Law w l) → ((a : Chars) → c ≢ Corr a) → is_built (command_of c) ≡ false
+other-unbuilt (TypeDecl a b) h k m = absurd (cc h)
+other-unbuilt (ConstDecl a b) h k m = absurd (cc h)
+other-unbuilt (Axiom a b) h k m = absurd (cc h)
+other-unbuilt (Def a b d) h k m = absurd (cc h)
+other-unbuilt (Typedef a b d e f g) h k m = absurd (cc h)
+other-unbuilt (Lemma a b d) h k m = absurd (cc h)
+other-unbuilt (Law a b) h k m = absurd (k a b refl)
+other-unbuilt (Corr a) h k m = absurd (m a refl)
+other-unbuilt (Relator a b d e f g) h k m = refl
+other-unbuilt (Property a) h k m = refl
+other-unbuilt (Domain a) h k m = refl
+other-unbuilt (RuleCommand a) h k m = refl
+other-unbuilt (Lifting a) h k m = refl
+other-unbuilt (LiftingTypedef a) h k m = refl
+other-unbuilt (QuotientType a b d e) h k m = refl
+other-unbuilt (Lift a b d e) h k m = refl
+other-unbuilt (Parametric a) h k m = refl
+other-unbuilt (ParamRule a b d) h k m = refl
+other-unbuilt (Equiv a b) h k m = refl
+other-unbuilt (Implies a b) h k m = refl
+other-unbuilt (Carry a b d) h k m = refl
+other-unbuilt (AbsEq a) h k m = refl
+other-unbuilt (RepEq a) h k m = refl

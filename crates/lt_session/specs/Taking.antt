@@ -1,13 +1,15 @@
 -- What a session answers to a command.
 use Rattle.std.specs.Prelude.{◌≡◌, ◌⊎◌, List, ◌++◌, length, Bool, true, false, None, Result, Ok, Err}
-use Rattle.lt_texts.specs.Commands.{Command, item_command, law_command}
+use Rattle.lt_texts.specs.Commands.{Command, item_command, law_command, corr_command}
 use Rattle.lt_hol.specs.declared.item.Item.{Item}
 use Rattle.lt_extend.specs.Theories.{items_of}
 use Rattle.lt_commands.specs.declared.refusal.Refusal.{Refusal}
-use Rattle.lt_commands.specs.declared.refusal.Refusal.TheVariants.{UnknownLaw, LawDiffers, MissingLaw, NotBuilt, Memory}
+use Rattle.lt_commands.specs.declared.refusal.Refusal.TheVariants.{Duplicate, UnknownLaw, LawDiffers, MissingLaw, RelatorShape, PropertyShape, DuplicateProperty, DomainShape, DuplicateDomain, NotBuilt, Memory}
 use Rattle.lt_commands.specs.declared.refusal.Refused.{Refused}
 use Rattle.lt_laws.specs.declared.law_fault.LawFault.{LawFault}
 use Rattle.lt_laws.specs.declared.law_fault.LawFault.TheVariants as faults
+use Rattle.lt_relations.specs.declared.rel_fault.RelFault.{RelFault}
+use Rattle.lt_relations.specs.declared.rel_fault.RelFault.TheVariants as relations
 use Rattle.lt_plain.specs.Telling.{Tells}
 use Rattle.lt_plain.specs.Showing.{shown_words}
 use Rattle.lt_transport_definitions.specs.Sessions.{Session}
@@ -17,10 +19,11 @@ use Rattle.lt_transport_definitions.specs.TheoryWalks.{line_of}
 use Rattle.lt_session.specs.declared.session.Block.{Block}
 use Rattle.lt_session.specs.Sessions.{Holding, session_of}
 
--- Which commands are built: those of items, and `law`.
+-- Which commands are built: those of items, `law` and `corr`.
 abbrev pub is_built : Command → Bool
 is_built (item_command i) = true
 is_built (law_command w l) = true
+is_built (corr_command c) = true
 is_built _ = false
 
 -- why a law isn't registered, as a refusal
@@ -29,6 +32,16 @@ of_law (faults.UnknownLaw w) = UnknownLaw w
 of_law (faults.LawDiffers w) = LawDiffers w
 of_law (faults.MissingLaw w) = MissingLaw w
 of_law faults.Memory = Memory
+
+-- why nothing of relations is registered, as a refusal
+abbrev pub of_relation : RelFault → Refusal
+of_relation (relations.RelatorShape part) = RelatorShape part
+of_relation (relations.Duplicate c) = Duplicate c
+of_relation (relations.PropertyShape part) = PropertyShape part
+of_relation (relations.DuplicateProperty p c) = DuplicateProperty p c
+of_relation relations.DomainShape = DomainShape
+of_relation (relations.DuplicateDomain c) = DuplicateDomain c
+of_relation relations.Memory = Memory
 
 -- The answered refusal is this one, with its values.
 abbrev pub TellsRefusal : CommandRefusal → Refusal → Type 0

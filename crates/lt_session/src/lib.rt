@@ -2,6 +2,7 @@
 #![tactic(auto)]
 
 mod counts;
+mod faults;
 pub mod laws;
 mod running;
 mod session;

@@ -1,8 +1,9 @@
 //! The walk through a theory text: its items are added and written one block after another.
-ghost use Rattle.std.specs.Prelude.{◌≡◌, [], map, OnOk, OnErr, IfOk, string_bytes, encode_utf8_all};
+ghost use Rattle.std.specs.Prelude.{◌≡◌, map, OnOk, OnErr, IfOk, string_bytes, encode_utf8_all};
 ghost use Rattle.lt_hol.specs.Items.{item_of};
 ghost use Rattle.lt_io.specs.Written.{Grew, GrewByFront};
 ghost use Rattle.lt_extend.specs.Theories.{items_of};
+ghost use Rattle.lt_session.specs.Sessions.{new_holding};
 ghost use Rattle.lt_session.specs.Running.{CutByCause, IsNoRefusal, IsStop, IsRun, written_first, written_item, written_items, written_last};
 
 use crate::counts::count;
@@ -44,8 +45,7 @@ pub fn run_text<O: Sink>(
     summary: bool,
     out: &mut O,
 ) -> Result<(), Stop>
-    requires items { session.old.items ≡ [] }
-    requires laws { session.old.laws ≡ [] }
+    requires { session.old ≡ new_holding session.old.limit }
     ensures run { IsRun session.old.limit summary text.now (items_of session.new.items)
         (O.written out.old) (O.written out.new) result }
     ensures cause { CutByCause (O.faults out.old) (O.faults out.new) result }

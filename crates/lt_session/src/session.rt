@@ -1,17 +1,20 @@
 //! A session, and the commands that it takes.
-ghost use Rattle.std.specs.Prelude.{◌≡◌, ◌≤◌, [], length, drop, None, IfOk};
+ghost use Rattle.std.specs.Prelude.{◌≡◌, ◌≤◌, length, drop, None, IfOk};
 ghost use Rattle.lt_definitions.specs.Theory.{IsPlainTheory};
-ghost use Rattle.lt_texts.specs.Commands.{item_command, law_command};
+ghost use Rattle.lt_texts.specs.Commands.{item_command, law_command, corr_command};
 ghost use Rattle.lt_hol.specs.Items.{item_of};
 ghost use Rattle.lt_commands.specs.Views.{command_of};
 ghost use Rattle.lt_extend.specs.Theories.{items_of};
-ghost use Rattle.lt_session.specs.Taking.{Takes, of_law};
+ghost use Rattle.lt_session.specs.Sessions.{new_holding};
+ghost use Rattle.lt_session.specs.Taking.{Takes};
 
+use crate::faults::{of_law_fault, of_rel_fault};
 use lt_commands::{Command, Refusal, Refused};
 use lt_extend::Theory;
 use lt_hol::{Item, Items, Memory, Name};
-use lt_laws::{LawFault, Laws};
+use lt_laws::Laws;
 use lt_plain::{add_item, item_or_command, line_of, of_fault};
+use lt_relations::Relations;
 use lt_shared::SharedStore;
 use std::alloc::Global;
 use std::marker::Model;
@@ -23,11 +26,13 @@ pub struct Block {
 }
 
 /// What a theory text's commands have declared, stated and registered so far, and how many visits a
-/// search may make. Contracts see the items, the registered laws and the limit.
+/// search may make. Contracts see the items, the registered laws, what is registered of relations,
+/// and the limit.
 #[derive(Drop)]
 pub struct Session {
     theory: Theory<SharedStore>,
     laws: Laws,
+    relations: Relations,
     limit: u64,
 }
 
@@ -43,7 +48,8 @@ impl Model for Session {
 
     ghost coded = { Prim.hlevel (codes, coded_type, coded_term) };
 
-    ghost view = { λ s. record { items = s.theory.items; laws = s.laws; limit = s.limit } };
+    ghost view = { λ s. record { items = s.theory.items; laws = s.laws; registry = s.relations;
+        limit = s.limit } };
 
     ghost invariant = { λ s. IsInStep s.theory };
 }
@@ -51,16 +57,17 @@ impl Model for Session {
 impl Session {
     /// The session in which nothing is declared, stated or registered.
     pub fn new(alloc: Global, limit: u64) -> Result<Session, Memory>
-        ensures items { IfOk result (λ s. s.items ≡ []) }
-        ensures laws { IfOk result (λ s. s.laws ≡ []) }
+        ensures empty { IfOk result (λ s. s ≡ new_holding s.limit) }
         ensures limit { IfOk result (λ s. s.limit ≡ limit) }
     {
         let store = SharedStore::new(alloc);
         let theory = Theory::new(alloc, store)?;
         let laws = Laws::new(alloc)?;
+        let relations = Relations::new(alloc)?;
         Ok(Session {
             theory,
             laws,
+            relations,
             limit,
         })
     }
@@ -76,6 +83,7 @@ impl Session {
         match item_or_command(command) {
             Ok(item) => self.take_item(alloc, item),
             Err(Command::Law(law, label)) => self.take_law(alloc, &law, label),
+            Err(Command::Corr(name)) => self.take_corr(alloc, name),
             Err(_) => Err(refused(Refusal::NotBuilt)),
         }
     }
@@ -108,6 +116,21 @@ impl Session {
         match self.laws.register_law(alloc, law, label, statement) {
             Ok(()) => Ok(block),
             Err(fault) => Err(refused(of_law_fault(fault))),
+        }
+    }
+
+    /// Registers the correspondence that a constant is by its declared type.
+    fn take_corr(&mut self, alloc: Global, name: Name) -> Result<Block, Refused>
+        ensures { Takes self.old (corr_command name) self.new result }
+    {
+        let block = self.next_block();
+        let sig = self.theory.signature();
+        let Some(_) = sig.const_type(&name) else {
+            return Err(refused(Refusal::UnknownConst(name)));
+        };
+        match self.relations.register_corr(alloc, sig, &name) {
+            Ok(()) => Ok(block),
+            Err(fault) => Err(refused(of_rel_fault(fault))),
         }
     }
 
@@ -144,21 +167,10 @@ impl Session {
         let Session {
             theory,
             laws: _,
+            relations: _,
             limit: _,
         } = self;
         theory.into_items()
-    }
-}
-
-/// Why a law isn't registered, as a refusal.
-fn of_law_fault(fault: LawFault) -> Refusal
-    ensures { result ≡ of_law fault }
-{
-    match fault {
-        LawFault::UnknownLaw(law) => Refusal::UnknownLaw(law),
-        LawFault::LawDiffers(law) => Refusal::LawDiffers(law),
-        LawFault::MissingLaw(law) => Refusal::MissingLaw(law),
-        LawFault::Memory => Refusal::Memory,
     }
 }
 

@@ -4,16 +4,16 @@ use Rattle.lt_session.proofs.running.run_text.Goals as goal
 
 pub returns-in-Err-clause-run : goal.returns-in-Err-clause-run
 returns-in-Err-clause-run g c =
-    header_stops c.args.session.now.limit c.args.summary c.args.text.now c.args.session.now.items (g.O.Sink.written c.args.out.now) c.in-Err.placed c.stop_of.result c.requires.items c.in-Err.ensures.wrong c.stop_of.ensures
+    header_stops c.args.summary c.args.text.now c.args.session.now (g.O.Sink.written c.args.out.now) c.in-Err.placed c.stop_of.result c.requires c.in-Err.ensures.wrong c.stop_of.ensures
 
 pub returns-in-Err-write_first-clause-run : goal.returns-in-Err-write_first-clause-run
 returns-in-Err-write_first-clause-run g c =
     cut_stops c.args.session.now.limit c.args.summary c.args.text.now _ _ _ c.in-Err-write_first.stop c.in-Err-write_first.ensures.written
-    (first_cut c.args.summary c.args.text.now c.args.session.now c.in-Ok.script.left _ _ c.requires.items c.requires.laws c.in-Ok.ensures.header c.in-Err-write_first.ensures.front)
+    (first_cut c.args.summary c.args.text.now c.args.session.now c.in-Ok.script.left _ _ c.requires c.in-Ok.ensures.header c.in-Err-write_first.ensures.front)
 
 pub commands-init : goal.commands-init
 commands-init g c = record {
-  way = way_begins c.args.summary c.args.text.now c.args.session.now c.in-Ok.script.left _ _ c.requires.items c.requires.laws c.in-Ok.ensures.header c.in-Ok-write_first.ensures.all;
+  way = way_begins c.args.summary c.args.text.now c.args.session.now c.in-Ok.script.left _ _ c.requires c.in-Ok.ensures.header c.in-Ok-write_first.ensures.all;
   theory = c.in-Ok.ensures.theory;
   later = c.write_first.ensures.cause.later;
 }

@@ -11,10 +11,10 @@ returns-in_default c = label_refused c.args.self.now _ c.args.law.now c.args.lab
 pub returns : goal.returns
 returns c =
     elim c.match-register_law.branch [
-      | in-Ok w ↦ takes_ok c.args.self.now (record { items = c.self.inside.theory.items; laws = c.register_law.new.self; limit = c.self.inside.limit }) _ _ c.match-register_law.result w.result-is
-          (law_taken c.args.self.now _ _ c.args.law.now c.args.label c.in-Some.statement.now c.next_block-block.result c.self.view_is c.next_block-block.ensures (sym c.in-Some.ensures) w.in-Ok.ensures.0 refl w.in-Ok.ensures.1 refl)
-      | in-Err w ↦ takes_err c.args.self.now (record { items = c.self.inside.theory.items; laws = c.register_law.new.self; limit = c.self.inside.limit }) _ _ c.match-register_law.result w.result-is
-          (law_refused c.args.self.now _ _ c.args.law.now c.args.label c.in-Some.statement.now w.in-Err.fault w.refused-in-Err.result c.self.view_is (sym c.in-Some.ensures) w.in-Err.ensures.0 refl w.in-Err.ensures.1 refl
+      | in-Ok w ↦ takes_ok c.args.self.now (record { items = c.self.inside.theory.items; laws = c.register_law.new.self; registry = c.self.inside.relations; limit = c.self.inside.limit }) _ _ c.match-register_law.result w.result-is
+          (law_taken c.args.self.now _ _ c.args.law.now c.args.label c.in-Some.statement.now c.next_block-block.result c.self.view_is c.next_block-block.ensures (sym c.in-Some.ensures) w.in-Ok.ensures.0 w.in-Ok.ensures.1 refl)
+      | in-Err w ↦ takes_err c.args.self.now (record { items = c.self.inside.theory.items; laws = c.register_law.new.self; registry = c.self.inside.relations; limit = c.self.inside.limit }) _ _ c.match-register_law.result w.result-is
+          (law_refused c.args.self.now _ _ c.args.law.now c.args.label c.in-Some.statement.now w.in-Err.fault w.refused-in-Err.result c.self.view_is (sym c.in-Some.ensures) w.in-Err.ensures.0 w.in-Err.ensures.1 refl
           (w.refused-in-Err.ensures ∙ ap told w.of_law_fault.ensures))
     ]
   where
