@@ -14,8 +14,8 @@ closed-last : (c : Chars) (k n : ℕ) (ts : List TypeTree) → n ≡ length ts -
 closed-last c k n ts e =
     let at = before-last k n (length ts) e in
     ap (λ i. take i ts ++ type_constructor c (row (drop i ts)) ∷ []) at
-        ∙ ap (λ us. us ++ type_constructor c (row (drop (min k (length ts)) ts)) ∷ []) (take_min k ts)
-        ∙ ap (λ us. take k ts ++ type_constructor c (row us) ∷ []) (drop_min k ts)
+    ∙ ap (λ us. us ++ type_constructor c (row (drop (min k (length ts)) ts)) ∷ []) (take_min k ts)
+    ∙ ap (λ us. take k ts ++ type_constructor c (row us) ∷ []) (drop_min k ts)
 
 pub closing : (m : Made) (ps rest : List (Chars × ℕ)) (c : Chars) (k n l : ℕ) (old made : List TypeTree)
     → ps ≡ rest ++ (c, k) ∷ [] → l ≡ length m.forming → n ≡ l - k → old ≡ m.forming
@@ -24,4 +24,4 @@ pub closing : (m : Made) (ps rest : List (Chars × ℕ)) (c : Chars) (k n l : �
 closing m ps rest c k n l old made p at e was is =
     let whole = is ∙ closed-last c k n old (e ∙ ap (λ i. i - k) (at ∙ ap length (sym was))) ∙ ap (closed k c) was in
     ap (λ ts. record m { forming = ts; pending = reverse rest }) whole
-        ∙ ap (λ os. close_type os m) (sym (ap reverse p ∙ reverse-append rest ((c, k) ∷ [])))
+    ∙ ap (λ os. close_type os m) (sym (ap reverse p ∙ reverse-append rest ((c, k) ∷ [])))
