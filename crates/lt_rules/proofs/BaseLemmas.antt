@@ -1,10 +1,10 @@
 -- The list of all rules: one more, fewer, and those that fit.
-use Rattle.std.proofs.Common.{◌≡◌, ◌∙◌, inl, inr, ℕ, zero, suc, ◌+◌, ◌-◌, ◌<◌, ◌≤◌, List, [], ◌∷◌, ◌++◌, map, length, take, filter, slice_get, Bool, true, false, ◌&&◌, Option, Some, None, is_some, option_map, if◌then◌else◌, refl, sym, ap, subst, arith, add-one, append-nil, nat_eq}
+use Rattle.std.proofs.Common.{◌≡◌, ◌∙◌, inl, inr, ℕ, zero, suc, ◌+◌, ◌-◌, ◌<◌, ◌≤◌, List, [], ◌∷◌, ◌++◌, map, length, take, filter, slice_get, true, false, ◌&&◌, Some, is_some, if◌then◌else◌, refl, sym, ap, subst, arith, add-one, nat_eq}
 use Rattle.std.specs.Cmp.Lexicographic.{pointwise}
 use Rattle.std.proofs.lemmas.Bool.{cond-true, cond-false}
 use Rattle.std.proofs.lemmas.List.{map-append, take-take, take_all, length-take-le}
 use Rattle.std.proofs.lemmas.List.Elements.{filter-append}
-use Rattle.std.proofs.lemmas.Option.{same_Some, none-some, slice_get-map}
+use Rattle.std.proofs.lemmas.Option.{same_Some, none-some}
 use Rattle.std.proofs.Math.Seq.{take-append_seam}
 use Rattle.indexmap.specs.IndexMap.{insert_entry}
 use Rattle.lt_definitions.specs.Types.{Chars, same_name, found, TypeTree, row, same_types, type_instance}
@@ -16,7 +16,7 @@ use Rattle.lt_types.proofs.NameTables.{inserted-new}
 use Rattle.lt_relations.proofs.RegisteringLemmas.{any-keyed, keyed-grown}
 use Rattle.lt_rules.specs.RuleIndexes.{rules_of, things, without_last, Changes, Agree, IsIndex}
 use Rattle.lt_rules.specs.Registering.{has_label}
-use Rattle.lt_rules.proofs.IndexLemmas.{last-dropped, index-more, index-fewer, index-same}
+use Rattle.lt_rules.proofs.IndexLemmas.{index-more, index-fewer, index-same}
 
 -- ---- the rules by their labels
 
@@ -31,9 +31,6 @@ keyed-front (e ∷ es) later k = (k.0, keyed-front es later k.1)
 
 pub keyed-fewer : (es old later : List (Chars × TransferRule)) → old ≡ es ++ later → AreKeyed (λ r. r.label) old → AreKeyed (λ r. r.label) es
 keyed-fewer es old later e k = keyed-front es later (subst (λ (xs : List (Chars × TransferRule)). AreKeyed (λ r. r.label) xs) e k)
-
-pub thing-at : {A : Type 0} (es : List (Chars × A)) (i : ℕ) (e : Chars × A) → slice_get es i ≡ Some e → slice_get (things es) i ≡ Some e.1
-thing-at es i e h = slice_get-map (λ e. e.1) es i ∙ ap (option_map (λ e. e.1)) h
 
 -- ---- one rule more
 
@@ -69,9 +66,6 @@ restored-kept es back lists later e h a =
 
 -- ---- one rule fewer
 
-pub last-told : (es later : List (Chars × TransferRule)) (x : Chars) (rule : TransferRule) (now : List TransferRule) → things es ≡ now → es ≡ later ++ (x, rule) ∷ [] → things later ≡ without_last now
-last-told es later x rule now v e = sym (ap without_last (sym v ∙ things-more later es x rule e) ∙ last-dropped (things later) rule)
-
 pub last-kept : (es later : List (Chars × TransferRule)) (lists fewer : List (Chars × List TransferRule)) (x constant : Chars) (rule : TransferRule)
     → AreKeyed (λ r. r.label) es × IsIndex lists (things es) → es ≡ later ++ (x, rule) ∷ [] → constant ≡ rule.constant → Changes constant without_last lists fewer
     → AreKeyed (λ r. r.label) later × IsIndex fewer (things later)
@@ -80,15 +74,6 @@ last-kept es later lists fewer x constant rule h e c change = (
   index-fewer lists fewer (things later) rule (subst (λ (rs : List TransferRule). IsIndex lists rs) (things-more later es x rule e) h.1)
       (subst (λ (y : Chars). Changes y without_last lists fewer) c change),
 )
-
--- there was none
-pub none-told : (es later : List (Chars × TransferRule)) (now : List TransferRule) → things es ≡ now → es ≡ later ++ [] → (0 < length es → ⊥) → things later ≡ without_last now
-none-told [] later now v e n = ap things (sym (e ∙ append-nil later)) ∙ ap without_last v
-none-told (x ∷ es) later now v e n = absurd (n (omega arith))
-
-pub none-kept : (es later : List (Chars × TransferRule)) (lists : List (Chars × List TransferRule)) → es ≡ later ++ []
-    → AreKeyed (λ r. r.label) es × IsIndex lists (things es) → AreKeyed (λ r. r.label) later × IsIndex lists (things later)
-none-kept es later lists e h = subst (λ (xs : List (Chars × TransferRule)). AreKeyed (λ r. r.label) xs × IsIndex lists (things xs)) (e ∙ append-nil later) h
 
 -- ---- back to a mark
 

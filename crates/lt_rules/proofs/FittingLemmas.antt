@@ -1,5 +1,5 @@
 -- The map that is read off a pattern, and the one by which a rule fits.
-use Rattle.std.proofs.Common.{◌≡◌, ◌∙◌, inl, inr, List, [], ◌∷◌, ◌++◌, map, Bool, true, false, ◌&&◌, Option, Some, None, MatchOption, is_some, if◌then◌else◌, unwrap_or, refl, sym, ap, subst, append-nil, append_assoc}
+use Rattle.std.proofs.Common.{◌≡◌, ◌∙◌, inl, inr, List, [], ◌∷◌, ◌++◌, map, true, false, Option, Some, None, MatchOption, is_some, if◌then◌else◌, unwrap_or, refl, sym, ap, subst, append-nil, append_assoc}
 use Rattle.std.proofs.lemmas.Bool.{cond-true, cond-false}
 use Rattle.std.proofs.lemmas.List.{map-append}
 use Rattle.lt_definitions.specs.Types.{Chars, same_name, found, TypeTree, TypeTrees, type_variable, type_constructor, no_types, type_and, listed, row, same_types, TypeMap, type_instance, types_instance, type_names, types_names, Matches}

@@ -1,16 +1,16 @@
 -- Lists of rules under constants that change.
-use Rattle.std.proofs.Common.{◌≡◌, ◌∙◌, inl, inr, ℕ, suc, ◌-◌, List, [], ◌∷◌, ◌++◌, length, take, filter, Bool, true, false, Option, Some, None, Result, Ok, Err, OnErr, unwrap_or, if◌then◌else◌, refl, sym, ap, subst, arith, nat_eq, append-nil}
+use Rattle.std.proofs.Common.{◌≡◌, ◌∙◌, inl, inr, suc, ◌-◌, List, [], ◌∷◌, ◌++◌, length, take, Bool, true, false, Some, None, Result, Ok, Err, OnErr, unwrap_or, if◌then◌else◌, refl, sym, ap, subst, arith, nat_eq, append-nil}
 use Rattle.std.specs.Cmp.Lexicographic.{pointwise}
 use Rattle.std.specs.HashMap.{HashMap}
 use Rattle.std.specs.Map.{set_value}
 use Rattle.std.proofs.lemmas.Bool.{cond-true, cond-false}
-use Rattle.std.proofs.lemmas.Option.{same_Some, none-some}
+use Rattle.std.proofs.lemmas.Option.{none-some}
 use Rattle.std.proofs.lemmas.List.Elements.{filter-append}
 use Rattle.std.proofs.Math.Seq.{take-append_seam}
 use Rattle.lt_definitions.specs.Types.{Chars, same_name, found}
 use Rattle.lt_definitions.proofs.SameNames.{name-true, true-name, name-false, false-name, bool_cases}
 use Rattle.lt_transport_definitions.specs.RuleForm.{TransferRule}
-use Rattle.lt_rules.specs.RuleIndexes.{rules_of, things, listed_under, without_last, Changes, Agree, IsIndex}
+use Rattle.lt_rules.specs.RuleIndexes.{rules_of, listed_under, without_last, Changes, Agree, IsIndex}
 
 -- ---- what is found
 

@@ -1,5 +1,5 @@
 -- The rules of each constant, beside the list of all.
-use Rattle.std.specs.Prelude.{◌≡◌, ℕ, ◌-◌, List, [], map, filter, length, take, unwrap_or, if◌then◌else◌}
+use Rattle.std.specs.Prelude.{◌≡◌, ◌-◌, List, [], map, filter, length, take, unwrap_or, if◌then◌else◌}
 use Rattle.lt_definitions.specs.Types.{Chars, same_name, found}
 use Rattle.lt_transport_definitions.specs.RuleForm.{TransferRule}
 
