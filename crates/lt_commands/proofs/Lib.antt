@@ -1,3 +1,4 @@
 pub mod PlaceLemmas
 pub mod Makes
 pub mod LemmaRows
+pub mod ClosingLemmas

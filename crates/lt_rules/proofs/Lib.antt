@@ -1,0 +1,3 @@
+pub mod IndexLemmas
+pub mod FittingLemmas
+pub mod BaseLemmas
