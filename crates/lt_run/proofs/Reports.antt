@@ -6,7 +6,7 @@ use Rattle.lt_definitions.specs.Items.{Item, Context, empty, with_item}
 use Rattle.lt_definitions.specs.Printing.{report}
 use Rattle.lt_definitions.specs.Theory.{AreValid, IsPlainTheory}
 use Rattle.lt_nameless.proofs.Refusals.{accepted_is_valid}
-use Rattle.lt_texts.specs.Commands.{Command, item_command, law_command}
+use Rattle.lt_texts.specs.Commands.{Command, item_command, law_command, corr_command}
 use Rattle.lt_texts.specs.Forms.{theory_text, a_command, header_text, sentences_text, sentence_text}
 use Rattle.lt_texts.specs.Named.{IsReadablePiece, AreReadable, AreReadableItems, AreAlikeItems}
 use Rattle.lt_texts.specs.Pieces.{Piece, word_piece, sign_piece, name_piece, number_piece, variable_piece, type_piece, statement_piece, term_piece, semicolon, item_text}
@@ -89,6 +89,7 @@ given-items n (a_lemma l t ∷ additions) (item ∷ items) h g = absurd g
 built-rows : (n : ℕ) (s : Session) (c : Command) → is_built c ≡ true → AreNamedPieces n (sentence_text theory_text (a_command c)) → Each (GivenNamed n) (row_of s c)
 built-rows n s (item_command i) e h = (h, tt)
 built-rows n s (law_command w l) e h = λ t law. tt
+built-rows n s (corr_command a) e h = λ d. tt
 built-rows n s c e h = cc e
 
 block-named : (n : ℕ) (s : Session) (c : Command) (items : List Item) (later : Session) → AreNamedPieces n (sentence_text theory_text (a_command c)) → GivesBuilt s c items later → AreNamedItems n items

@@ -7,6 +7,7 @@ ghost use Rattle.lt_io.specs.Written.{Grew};
 ghost use Rattle.lt_extend.specs.Theories.{items_of};
 ghost use Rattle.lt_walks.specs.Walks.{End, accepted};
 ghost use Rattle.lt_walks.specs.Calls.{read_fault_line};
+ghost use Rattle.lt_session.specs.Sessions.{new_holding};
 ghost use Rattle.lt_session.specs.Walks.{RunRefusal};
 ghost use Rattle.lt_session.specs.Running.{IsCut};
 ghost use Rattle.lt_run.specs.Joining.{KeepsTold};
@@ -111,8 +112,7 @@ fn run_over<O: Sink, E: Sink>(
     err: &mut E,
 ) -> Ended
     requires joined { IsJoinedOfSome names.now joined.now }
-    requires items { session.items ≡ [] }
-    requires laws { session.laws ≡ [] }
+    requires empty { session ≡ new_holding session.limit }
     ensures status { (result.status ≡ 0) ⊎ (result.status ≡ 1) ⊎ (result.status ≡ 4)
         ⊎ (result.status ≡ 5) }
     ensures accepted { result.status ≡ 0
@@ -146,8 +146,7 @@ fn run_into<O: Sink, E: Sink>(
     err: &mut E,
 ) -> u8
     requires joined { IsJoinedOfSome names.now joined.now }
-    requires items { session.old.items ≡ [] }
-    requires laws { session.old.laws ≡ [] }
+    requires empty { session.old ≡ new_holding session.old.limit }
     ensures status { (result ≡ 0) ⊎ (result ≡ 1) ⊎ (result ≡ 4) ⊎ (result ≡ 5) }
     ensures accepted { result ≡ 0
         → IsRunTold session.old.limit summary names.now joined.now (items_of session.new.items)

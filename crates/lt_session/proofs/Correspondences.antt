@@ -12,9 +12,10 @@ use Rattle.lt_commands.specs.declared.refusal.Refusal.TheVariants.{UnknownConst}
 use Rattle.lt_relations.specs.declared.rel_fault.RelFault.{RelFault}
 use Rattle.lt_relations.specs.declared.rel_fault.RelFault.TheVariants as faults
 use Rattle.lt_relations.specs.Registering.{IsFault}
-use Rattle.lt_relations.specs.Reading.{corr_fault, with_declared}
+use Rattle.lt_relations.specs.Reading.{corr_fault, with_declared, correspondence_over}
 use Rattle.lt_transport_definitions.specs.Answers.{given, only_where, first_wrong, wrong_where}
 use Rattle.lt_transport_definitions.specs.Relations.{Correspondence, kind_of, is_constructor}
+use Rattle.lt_transport_definitions.specs.Patterns.{relation_sides}
 use Rattle.lt_transport_definitions.specs.Forms.{correspondence_form, declared_correspondence}
 use Rattle.lt_transport_definitions.specs.Sessions.{Session, signature_of}
 use Rattle.lt_transport_definitions.specs.Commands.{CommandRefusal, as_item, corr_registered, with_registry, with_registration, Registration}
@@ -37,8 +38,11 @@ sides-name : (c : Chars) (s : Option (TypeTree × TypeTree)) (make : TypeTree ×
 sides-name c None make h d e = absurd (cc e)
 sides-name c (Some p) make h d e = h p d e
 
+over-name : (c : Chars) (p : TypeTree × TypeTree) (d : Correspondence) → correspondence_over c p ≡ Some d → d.name ≡ c
+over-name c p d e = sym (ap (λ (y : Correspondence). y.name) (only-value _ _ d e))
+
 form-name : (c : Chars) (ty : TypeTree) (d : Correspondence) → correspondence_form c ty ≡ Some d → d.name ≡ c
-form-name c ty d e = sides-name c _ _ (λ p z h. sym (ap (λ (y : Correspondence). y.name) (only-value _ _ z h))) d e
+form-name c ty d e = sides-name c (relation_sides ty) (correspondence_over c) (over-name c) d e
 
 declared-name : (c : Chars) (t : Option TypeTree) (d : Correspondence) → given t (correspondence_form c) ≡ Some d → d.name ≡ c
 declared-name c None d e = absurd (cc e)
