@@ -3,7 +3,7 @@ use Rattle.std.proofs.Common.{◌≡◌, List, [], ◌∷◌, length, Bool, true
 use Rattle.std.specs.Prelude.{is_none}
 use Rattle.lt_definitions.specs.Types.{Chars, TypeTree}
 use Rattle.lt_definitions.specs.Typing.{Signature, declared_type, unknown_const}
-use Rattle.lt_definitions.specs.Theory.{at_fault, duplicate}
+use Rattle.lt_definitions.specs.Theory.{at_fault}
 use Rattle.lt_texts.specs.Commands.{corr_command}
 use Rattle.lt_hol.specs.declared.form_part.RelatorPart.TheVariants.{Corr}
 use Rattle.lt_extend.specs.Theories.{context_behind}
@@ -25,7 +25,7 @@ use Rattle.lt_transport_definitions.specs.Blocks.{Unless, OfValue, ComesOfRow, C
 use Rattle.lt_session.specs.declared.session.Block.{Block as Answered}
 use Rattle.lt_session.specs.Sessions.{Holding, session_of}
 use Rattle.lt_session.specs.Taking.{of_relation, Refuses, IsTaken}
-use Rattle.lt_session.proofs.Registerings.{one-registration, fault-refusal, ComesOfFault, registration_taken, registration_refused, step_refused}
+use Rattle.lt_session.proofs.Registerings.{one-registration, fault-refusal, unless-free, unless-there, ComesOfFault, registration_taken, registration_refused, step_refused}
 
 -- ---- a correspondence has the constant's name
 
@@ -66,17 +66,6 @@ comes-corr s c t d o e f h =
 pub refused-const : (s : Session) (c : Chars) → declared_type (signature_of s) c ≡ None → ComesOf s (corr_command c) (Err (as_item (at_fault (unknown_const c))))
 refused-const s c e = comes-corr s c None _ _ e refl refl
 
--- a name that isn't taken, and one that is
-name-free : (s : Session) (d : Correspondence) (x : Chars) (b : Bool) → wrong_where b (faults.Duplicate x) ≡ None
-    → Unless (wrong_where b (as_item (duplicate x))) (ComesOfRow s (registers (corr_registered d))) (Ok (one-registration (corr_registered d)))
-name-free s d x true h = absurd (cc h)
-name-free s d x false h = refl
-
-name-taken : (s : Session) (d : Correspondence) (x : Chars) (b : Bool) (f : RelFault) → wrong_where b (faults.Duplicate x) ≡ Some f
-    → Unless (wrong_where b (as_item (duplicate x))) (ComesOfRow s (registers (corr_registered d))) (Err (fault-refusal f))
-name-taken s d x true f h = let same : faults.Duplicate x ≡ f = cc h in ap (λ (g : RelFault). Err (fault-refusal g)) (sym same)
-name-taken s d x false f h = absurd (cc h)
-
 -- the test of the constant's name, by that of the correspondence
 by-name : (s : Session) (c : Chars) (d : Correspondence) (o : BlockOutcome) → d.name ≡ c → Unless (constructor_test s.registry d.name) (ComesOfRow s (registers (corr_registered d))) o
     → OfCorr s c (Some d) o
@@ -86,11 +75,11 @@ of-taken : (s : Session) (c : Chars) (d : Option Correspondence) → ((z : Corre
     → (r : Registration) × OfCorr s c d (Ok (one-registration r)) × (with_registration s r ≡ with_registry s (with_declared d s.registry))
 of-taken s c None named h = absurd (cc h)
 of-taken s c (Some d) named h =
-    (corr_registered d, by-name s c d _ (named d refl) (name-free s d d.name (is_constructor (kind_of s.registry d.name)) h), refl)
+    (corr_registered d, by-name s c d _ (named d refl) (unless-free (is_constructor (kind_of s.registry d.name)) (faults.Duplicate d.name) _ _ _ h refl), refl)
 
 of-refused : (s : Session) (c : Chars) (d : Option Correspondence) (f : RelFault) → ((z : Correspondence) → d ≡ Some z → z.name ≡ c) → corr_fault d s.registry ≡ Some f → OfCorr s c d (Err (fault-refusal f))
 of-refused s c None f named h = let same : faults.RelatorShape Corr ≡ f = cc h in ap (λ (g : RelFault). Err (fault-refusal g)) (sym same)
-of-refused s c (Some d) f named h = by-name s c d _ (named d refl) (name-taken s d d.name (is_constructor (kind_of s.registry d.name)) f h)
+of-refused s c (Some d) f named h = by-name s c d _ (named d refl) (unless-there (is_constructor (kind_of s.registry d.name)) (faults.Duplicate d.name) f _ h)
 
 pub corr-comes : (s : Session) (c : Chars) (ty : TypeTree) → declared_type (signature_of s) c ≡ Some ty
     → ComesOfFault s (corr_command c) (corr_fault (declared_correspondence (signature_of s) c) s.registry) (with_declared (declared_correspondence (signature_of s) c) s.registry)

@@ -12,7 +12,9 @@ use Rattle.lt_relations.specs.Registering.{IsFault}
 use Rattle.lt_transport_definitions.specs.Relations.{Registry}
 use Rattle.lt_transport_definitions.specs.Sessions.{Session}
 use Rattle.lt_transport_definitions.specs.Commands.{CommandRefusal, as_item, because, Registration, Block, with_registry, with_registration}
-use Rattle.lt_transport_definitions.specs.Blocks.{ComesOf}
+use Rattle.lt_transport_definitions.specs.Answers.{wrong_where}
+use Rattle.lt_transport_definitions.specs.Rows.{BlockOutcome}
+use Rattle.lt_transport_definitions.specs.Blocks.{Unless, ComesOf}
 use Rattle.lt_transport_definitions.specs.TheoryWalks.{line_of}
 use Rattle.lt_session.specs.declared.session.Block.{Block as Answered}
 use Rattle.lt_session.specs.Sessions.{Holding, session_of}
@@ -58,6 +60,15 @@ is-that fault (faults.DuplicateProperty p c) h = inr h
 is-that fault faults.DomainShape h = inr h
 is-that fault (faults.DuplicateDomain c) h = inr h
 is-that fault faults.Memory h = inl refl
+
+-- a registration that is there already, or isn't
+pub unless-free : (b : Bool) (f : RelFault) (r : CommandRefusal) (P : BlockOutcome → Type 0) (o : BlockOutcome) → wrong_where b f ≡ None → P o → Unless (wrong_where b r) P o
+unless-free true f r P o e h = absurd (cc e)
+unless-free false f r P o e h = h
+
+pub unless-there : (b : Bool) (f g : RelFault) (P : BlockOutcome → Type 0) → wrong_where b f ≡ Some g → Unless (wrong_where b (fault-refusal f)) P (Err (fault-refusal g))
+unless-there true f g P e = let same : f ≡ g = cc e in ap (λ (x : RelFault). Err (fault-refusal x)) (sym same)
+unless-there false f g P e = absurd (cc e)
 
 -- What comes of the command: where there is no fault one thing is registered, behind which the registry is this one; else it is refused.
 pub record ComesOfFault (s : Session) (c : Command) (fault : Option RelFault) (registered : Registry) : Type 0 where
