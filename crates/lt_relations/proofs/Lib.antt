@@ -2,3 +2,4 @@ pub mod TableLemmas
 pub mod PlaceLemmas
 pub mod RegisteringLemmas
 pub mod HoldingLemmas
+pub mod FormLemmas

@@ -5,3 +5,4 @@ pub mod Places
 pub mod Registries
 pub mod Registering
 pub mod Holdings
+pub mod Reading

@@ -1,6 +1,7 @@
 //! What is registered of relations, and what follows of it.
 #![tactic(auto)]
 
+mod corr_form;
 mod entries;
 mod holdings;
 mod property_rules;

@@ -48,8 +48,12 @@ impl Model for Session {
 
     ghost coded = { Prim.hlevel (codes, coded_type, coded_term) };
 
-    ghost view = { λ s. record { items = s.theory.items; laws = s.laws; registry = s.relations;
-        limit = s.limit } };
+    ghost view = { λ s. record {
+      items = s.theory.items;
+      laws = s.laws;
+      registry = s.relations;
+      limit = s.limit;
+    } };
 
     ghost invariant = { λ s. IsInStep s.theory };
 }
